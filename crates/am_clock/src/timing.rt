@@ -114,7 +114,7 @@ impl Timing {
     }
 
     /// The block that a record with this reading and colour belongs to at a node of this shift (RFC
-    /// 9341, section 5). Reading and shift are in nanoseconds.
+    /// 9341, section 5). Reading and shift are in nanoseconds, and the shift is at most 2^40.
     ///
     /// A block's window begins half a block before the block and ends half a block after it, both later
     /// by the shift. The windows of one colour touch and do not overlap. There is no block exactly where
