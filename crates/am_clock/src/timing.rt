@@ -91,16 +91,18 @@ impl Timing {
         self.skew
     }
 
-    /// The least delay of a link, in nanoseconds.
+    /// The least delay of a link, in nanoseconds: at most 2^40.
     pub fn delay_min(&self) -> u64
-        ensures { result ≡ self.now.delay_min }
+        ensures value { result ≡ self.now.delay_min }
+        ensures most { result ≤ 2 ^ 40 }
     {
         self.delay_min
     }
 
     /// The greatest delay of a link, in nanoseconds: at most 2^40.
     pub fn delay_max(&self) -> u64
-        ensures { result ≡ self.now.delay_max }
+        ensures value { result ≡ self.now.delay_max }
+        ensures most { result ≤ 2 ^ 40 }
     {
         self.delay_max
     }

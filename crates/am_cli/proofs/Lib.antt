@@ -1,0 +1,5 @@
+pub mod SixWords
+pub mod TableLemmas
+pub mod CaptureLemmas
+pub mod RunLemmas
+pub mod LinkLemmas

@@ -1,0 +1,177 @@
+-- What the words say, what a command prints and what is refused are one.
+use Rattle.std.proofs.Common.{◌≡◌, ℕ, ◌<◌, ◌≤◌, List, [], ◌∷◌, ◌++◌, length, take, Option, Some, None, refl, ap, sym, ◌∙◌, subst, inl, inr, arith}
+use Rattle.std.specs.Prelude.{◌⊎◌, Contains, Result, Ok, Err, IfErr}
+use Rattle.std.specs.Io.KnownBytes.{append_known}
+use Rattle.am_base.specs.Counts.{Rose}
+use Rattle.am_base.specs.Shelves.{File, Told, OnTold, file_named}
+use Rattle.am_base.specs.Files.{KeepsFiles, files_told}
+use Rattle.am_cli.specs.Commands.{Link, Command, Says, SaysLink, IsNoCommand}
+use Rattle.am_cli.specs.Commands.Command.{Linking}
+use Rattle.am_cli.specs.Link.{most_bytes, IsTaken, IsRefused, LinkRefusal, IsLinkProduct}
+use Rattle.am_cli.specs.Marked.{Marked, IsNotPlain, IsPlainCapture}
+use Rattle.am_cli.specs.Runs.{IsProduct, IsFirstRefusal, IsStopOf, IsBorneOut, IsToldAs, Leaves, LeavesOf, Prints, Refuses, IsFault}
+use Rattle.am_cli.specs.Stops.{Refusal, Stop, refusal_status, stop_status}
+use Rattle.am_cli.specs.Stops.Refusal.{Missing, TooLong, NotPlain}
+use Rattle.am_cli.specs.Stops.Stop.{NoCommand, Refused, ReadFault, WriteFault, NoMemory}
+use Rattle.am_cli.proofs.CaptureLemmas.{not_plain_once, not_both}
+
+-- a file has one list of bytes
+one_file : (files : List File) (name a b : List ℕ) → file_named files name ≡ Some a → file_named files name ≡ Some b → a ≡ b
+one_file files name a b p q = cc
+
+-- the words of `link` by their parts
+abbrev made : ℕ → ℕ → ℕ → List ℕ → List ℕ → Link
+made block shift flow up down = record { block = block; shift = shift; flow = flow; up = up; down = down }
+
+-- words say one thing
+says_one : (words : List (List ℕ)) (l k : Link) → SaysLink words l → SaysLink words k → l ≡ k
+says_one words l k s t =
+    let same = sym s.spelled ∙ t.spelled in
+    let block : l.block ≡ k.block = cc (same, s.numbers.block.value, t.numbers.block.value) in
+    let shift : l.shift ≡ k.shift = cc (same, s.numbers.shift.value, t.numbers.shift.value) in
+    let flow : l.flow ≡ k.flow = cc (same, s.numbers.flow.value, t.numbers.flow.value) in
+    let up : l.up ≡ k.up = cc (same) in
+    let down : l.down ≡ k.down = cc (same) in
+    ap (λ x. made x l.shift l.flow l.up l.down) block ∙ ap (λ x. made k.block x l.flow l.up l.down) shift
+    ∙ ap (λ x. made k.block k.shift x l.up l.down) flow ∙ ap (λ x. made k.block k.shift k.flow x l.down) up
+    ∙ ap (λ x. made k.block k.shift k.flow k.up x) down
+
+pub says_once : (words : List (List ℕ)) (c d : Command) → Says words c → Says words d → c ≡ d
+says_once words (Linking l) (Linking k) s t = ap Linking (says_one words l k s t)
+
+-- a file is refused for one reason
+refused_once : (files : List File) (name : List ℕ) (r s : Refusal) → IsRefused files name r → IsRefused files name s → r ≡ s
+refused_once files name (Missing a) (Missing b) p q = ap Missing (p.0 ∙ sym q.0)
+refused_once files name (Missing a) (TooLong b) p q = absurd (cc (p.1, q.1.1))
+refused_once files name (Missing a) (NotPlain b k) p q = absurd (cc (p.1, q.1.1))
+refused_once files name (TooLong a) (Missing b) p q = absurd (cc (p.1.1, q.1))
+refused_once files name (TooLong a) (TooLong b) p q = ap TooLong (p.0 ∙ sym q.0)
+refused_once files name (TooLong a) (NotPlain b k) p q =
+    let e : p.1.0 ≡ q.1.0 = one_file files name p.1.0 q.1.0 p.1.1 q.1.1 in
+    absurd (omega (arith, p.1.2, q.1.2, ap length e))
+refused_once files name (NotPlain a k) (Missing b) p q = absurd (cc (p.1.1, q.1))
+refused_once files name (NotPlain a k) (TooLong b) p q =
+    let e : p.1.0 ≡ q.1.0 = one_file files name p.1.0 q.1.0 p.1.1 q.1.1 in
+    absurd (omega (arith, p.1.2, q.1.2, ap length e))
+refused_once files name (NotPlain a j) (NotPlain b k) p q =
+    let e : q.1.0 ≡ p.1.0 = one_file files name q.1.0 p.1.0 q.1.1 p.1.1 in
+    let same : j ≡ k = not_plain_once p.1.0 j k p.1.3 (subst (λ bytes. IsNotPlain bytes k) e q.1.3) in
+    ap (λ n. NotPlain n j) (p.0 ∙ sym q.0) ∙ ap (λ n. NotPlain b n) same
+
+-- a file that is taken is not refused
+not_refused : (files : List File) (name : List ℕ) (ms : List Marked) (r : Refusal) → IsTaken files name ms → IsRefused files name r → ⊥
+not_refused files name ms (Missing a) t q = cc (t.there, q.1)
+not_refused files name ms (TooLong a) t q =
+    let e : t.bytes ≡ q.1.0 = one_file files name t.bytes q.1.0 t.there q.1.1 in
+    omega (arith, t.short, q.1.2, ap length e)
+not_refused files name ms (NotPlain a k) t q =
+    let e : q.1.0 ≡ t.bytes = one_file files name q.1.0 t.bytes q.1.1 t.there in
+    not_both t.bytes ms k t.plain (subst (λ bytes. IsNotPlain bytes k) e q.1.3)
+
+-- `link` has one first refusal
+link_refused_once : (files : List File) (l : Link) (r s : Refusal) → LinkRefusal files l r → LinkRefusal files l s → r ≡ s
+link_refused_once files l r s p q =
+    elim p [
+      inl a ↦ elim q [
+        inl b ↦ refused_once files l.up r s a b
+      | inr b ↦ absurd (not_refused files l.up b.0 r b.1 a)
+      ]
+    | inr a ↦ elim q [
+        inl b ↦ absurd (not_refused files l.up a.0 s a.1 b)
+      | inr b ↦ refused_once files l.down r s a.2 b.2
+      ]
+    ]
+
+-- what is printed was not refused
+link_not_refused : (files : List File) (l : Link) (text : List ℕ) (r : Refusal) → IsLinkProduct files l text → LinkRefusal files l r → ⊥
+link_not_refused files l text r p q =
+    elim q [
+      inl a ↦ not_refused files l.up p.ups r p.up a
+    | inr a ↦ not_refused files l.down p.downs r p.down a.2
+    ]
+
+pub first_once : (files : List File) (c : Command) (r s : Refusal) → IsFirstRefusal files c r → IsFirstRefusal files c s → r ≡ s
+first_once files (Linking l) r s = link_refused_once files l r s
+
+pub product_not_refused : (files : List File) (c : Command) (text : List ℕ) (r : Refusal) → IsProduct files c text → IsFirstRefusal files c r → ⊥
+product_not_refused files (Linking l) text r = link_not_refused files l text r
+
+-- a fact of the value of an `Err`
+pub err_more : {T E : Type 0} {P Q : E → Type 0} (r : Result T E) → ((e : E) → P e → Q e) → IfErr r P → IfErr r Q
+err_more (Ok x) f p = tt
+err_more (Err e) f p = f e p
+
+-- a command's stop is borne out by its words
+pub stop_borne_out : (words : List (List ℕ)) (told : Option Told) (c : Command) (s : Stop) → Says words c → IsStopOf told c s → IsBorneOut words told s
+stop_borne_out words told c NoCommand says h = absurd h
+stop_borne_out words told c (Refused r) says h = (c, says, h)
+stop_borne_out words told c (ReadFault name) says h = (c, says, h)
+stop_borne_out words told c WriteFault says h = (c, says)
+stop_borne_out words told c NoMemory says h = (c, says)
+
+-- what bears out a stop bears out what is told of it
+pub told_borne_out : (words : List (List ℕ)) (told : Option Told) (stop s : Stop) → IsToldAs stop s → IsBorneOut words told stop → IsBorneOut words told s
+told_borne_out words told NoCommand s e h = subst (λ x. IsBorneOut words told x) (sym e) h
+told_borne_out words told (Refused r) s e h =
+    elim e [ inl same ↦ subst (λ x. IsBorneOut words told x) (sym same) h | inr none ↦ subst (λ x. IsBorneOut words told x) (sym none) (h.0, h.1) ]
+told_borne_out words told (ReadFault name) s e h =
+    elim e [ inl same ↦ subst (λ x. IsBorneOut words told x) (sym same) h | inr none ↦ subst (λ x. IsBorneOut words told x) (sym none) (h.0, h.1) ]
+told_borne_out words told WriteFault s e h = subst (λ x. IsBorneOut words told x) (sym e) h
+told_borne_out words told NoMemory s e h = subst (λ x. IsBorneOut words told x) (sym e) h
+
+-- what a command leaves at a stop that names a file it leaves where memory runs out
+named_leaves : (told : Option Told) (c : Command) (r : Refusal) (printed : List ℕ) → Leaves told c (Refused r) printed → Leaves told c NoMemory printed
+named_leaves told (Linking l) r printed h = h
+
+fault_leaves : (told : Option Told) (c : Command) (name printed : List ℕ) → Leaves told c (ReadFault name) printed → Leaves told c NoMemory printed
+fault_leaves told (Linking l) name printed h = h
+
+-- and so of what is told of it
+pub told_leaves : (words : List (List ℕ)) (told : Option Told) (stop s : Stop) (printed : List ℕ) → IsToldAs stop s → LeavesOf words told stop printed → LeavesOf words told s printed
+told_leaves words told NoCommand s printed e h = subst (λ x. LeavesOf words told x printed) (sym e) h
+told_leaves words told (Refused r) s printed e h =
+    elim e [
+      inl same ↦ subst (λ x. LeavesOf words told x printed) (sym same) h
+    | inr none ↦ subst (λ x. LeavesOf words told x printed) (sym none)
+        (elim h [ inl unsaid ↦ inl unsaid | inr said ↦ inr (said.0, said.1, named_leaves told said.0 r printed said.2) ])
+    ]
+told_leaves words told (ReadFault name) s printed e h =
+    elim e [
+      inl same ↦ subst (λ x. LeavesOf words told x printed) (sym same) h
+    | inr none ↦ subst (λ x. LeavesOf words told x printed) (sym none)
+        (elim h [ inl unsaid ↦ inl unsaid | inr said ↦ inr (said.0, said.1, fault_leaves told said.0 name printed said.2) ])
+    ]
+told_leaves words told WriteFault s printed e h = subst (λ x. LeavesOf words told x printed) (sym e) h
+told_leaves words told NoMemory s printed e h = subst (λ x. LeavesOf words told x printed) (sym e) h
+
+-- the status is 2 exactly where the words are no command
+pub two_exactly : (words : List (List ℕ)) (told : Option Told) (s : Stop) (status : ℕ) → stop_status s ≡ status → IsBorneOut words told s → (status ≡ 2 → IsNoCommand words) × (IsNoCommand words → status ≡ 2)
+two_exactly words told NoCommand status e h = (λ _. h, λ _. sym e)
+two_exactly words told (Refused (Missing name)) status e h = (λ two. absurd (omega arith), λ unsaid. absurd (unsaid h.0 h.1))
+two_exactly words told (Refused (TooLong name)) status e h = (λ two. absurd (omega arith), λ unsaid. absurd (unsaid h.0 h.1))
+two_exactly words told (Refused (NotPlain name number)) status e h = (λ two. absurd (omega arith), λ unsaid. absurd (unsaid h.0 h.1))
+two_exactly words told (ReadFault name) status e h = (λ two. absurd (omega arith), λ unsaid. absurd (unsaid h.0 h.1))
+two_exactly words told WriteFault status e h = (λ two. absurd (omega arith), λ unsaid. absurd (unsaid h.0 h.1))
+two_exactly words told NoMemory status e h = (λ two. absurd (omega arith), λ unsaid. absurd (unsaid h.0 h.1))
+
+-- where a file is refused first, that gives the status, or a fault does
+refused_stop : (words : List (List ℕ)) (t : Told) (s : Stop) (status : ℕ) → stop_status s ≡ status → IsBorneOut words (Some t) s → Refuses words t.files status
+refused_stop words t NoCommand status e h = λ c r says first. absurd (h c says)
+refused_stop words t (Refused q) status e h = λ c r says first.
+    let same : h.0 ≡ c = says_once words h.0 c h.1 says in
+    let one : q ≡ r = first_once t.files c q r (subst (λ x. IsFirstRefusal t.files x q) same h.2.1) first in
+    inl (sym e ∙ ap refusal_status one)
+refused_stop words t (ReadFault name) status e h = λ c r says first. inr (inl (sym e))
+refused_stop words t WriteFault status e h = λ c r says first. inr (inr (inl (sym e)))
+refused_stop words t NoMemory status e h = λ c r says first. inr (inr (inr (sym e)))
+
+pub stopped_refuses : (words : List (List ℕ)) (told : Option Told) (s : Stop) (status : ℕ) → stop_status s ≡ status → IsBorneOut words told s → OnTold told (λ t. Refuses words t.files status)
+stopped_refuses words None s status e h = tt
+stopped_refuses words (Some t) s status e h = refused_stop words t s status e h
+
+-- where a product was printed nothing is refused
+pub printed_refuses : (words : List (List ℕ)) (told : Option Told) (old new : Option (List ℕ)) → Prints words told old new → OnTold told (λ t. Refuses words t.files 0)
+printed_refuses words None old new h = tt
+printed_refuses words (Some t) old new h = λ c r says first.
+    let same : h.0 ≡ c = says_once words h.0 c h.1 says in
+    absurd (product_not_refused t.files c h.2.0 r (subst (λ x. IsProduct t.files x h.2.0) same h.2.1) first)

@@ -1,0 +1,25 @@
+use Rattle.am_cli.proofs.RunLemmas.{told_borne_out, told_leaves, two_exactly, stopped_refuses, printed_refuses}
+use Rattle.am_cli.specs.Shown.{stop_shown}
+use Rattle.am_cli.proofs.run.run.Goals as goal
+
+pub returns-in-Ok-clause-refused : goal.returns-in-Ok-clause-refused
+returns-in-Ok-clause-refused g c = printed_refuses _ _ _ _ c.in-Ok.ensures.product
+
+pub returns-in-Err-clause-no_command : goal.returns-in-Err-clause-no_command
+returns-in-Err-clause-no_command g c =
+    two_exactly _ (g.S.Shelf.told c.args.shelf.now) c.tell.ensures.0 _ c.tell.ensures.1 (told_borne_out _ _ (stop_shown c.in-Err.stop) _ c.tell.ensures.2 c.in-Err.ensures.stopped)
+
+pub returns-in-Err-clause-stopped : goal.returns-in-Err-clause-stopped
+returns-in-Err-clause-stopped g c = λ _. record {
+  stop = c.tell.ensures.0;
+  status_is = c.tell.ensures.1;
+  cause = told_borne_out _ _ (stop_shown c.in-Err.stop) _ c.tell.ensures.2 c.in-Err.ensures.stopped;
+  printed = c.in-Err.ensures.leaves.0;
+  appended = c.in-Err.ensures.leaves.1;
+  left = told_leaves _ _ (stop_shown c.in-Err.stop) _ _ c.tell.ensures.2 c.in-Err.ensures.leaves.2;
+  line = c.tell.ensures.3;
+}
+
+pub returns-in-Err-clause-refused : goal.returns-in-Err-clause-refused
+returns-in-Err-clause-refused g c =
+    stopped_refuses _ _ c.tell.ensures.0 _ c.tell.ensures.1 (told_borne_out _ _ (stop_shown c.in-Err.stop) _ c.tell.ensures.2 c.in-Err.ensures.stopped)

@@ -1,0 +1,9 @@
+pub mod Commands
+pub mod Marked
+pub mod Tables
+pub mod Stops
+pub mod Link
+pub mod Runs
+pub mod Shown
+pub mod Tallies
+pub mod Counting

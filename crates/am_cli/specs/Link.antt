@@ -1,0 +1,60 @@
+-- What `link` prints, and which refusal of its files comes first.
+use Rattle.std.specs.Prelude.{◌≡◌, ◌⊎◌, ℕ, ◌<◌, ◌≤◌, List, length, Option, Some, None, ⊤}
+use Rattle.am_base.specs.Shelves.{File, Told, OnTold, file_named}
+use Rattle.am_clock.specs.Times.{Times}
+use Rattle.am_cli.specs.Commands.{Link}
+use Rattle.am_cli.specs.Marked.{Marked, IsPlainCapture, IsNotPlain}
+use Rattle.am_cli.specs.Tables.{Row, IsTable, count_in, table_text}
+use Rattle.am_cli.specs.Stops.{Refusal, Stop, refused_name}
+use Rattle.am_cli.specs.Stops.Stop.{NoCommand, Refused, ReadFault, WriteFault, NoMemory}
+use Rattle.am_cli.specs.Stops.Refusal.{Missing, TooLong, NotPlain}
+
+-- the most bytes that a capture may have
+abbrev pub most_bytes : ℕ
+most_bytes = 16777216
+
+-- blocks of this length, for the clocks of two points that agree and a delay that is known
+abbrev pub times_of : Link → Times
+times_of l = record { block = l.block; skew = 0; delay_min = l.shift; delay_max = l.shift }
+
+-- the file of this name is a plain capture, not too long, with these marked records
+pub record IsTaken (files : List File) (name : List ℕ) (ms : List Marked) : Type 0 where
+  pub bytes : List ℕ
+  pub there : file_named files name ≡ Some bytes
+  pub short : length bytes ≤ most_bytes
+  pub plain : IsPlainCapture bytes ms
+
+-- the file of this name is refused so
+abbrev pub IsRefused : List File → List ℕ → Refusal → Type 0
+IsRefused files name (Missing refused) = (refused ≡ name) × (file_named files name ≡ None)
+IsRefused files name (TooLong refused) =
+    (refused ≡ name) × ((bytes : List ℕ) × (file_named files name ≡ Some bytes) × (most_bytes < length bytes))
+IsRefused files name (NotPlain refused number) =
+    (refused ≡ name) × ((bytes : List ℕ) × (file_named files name ≡ Some bytes) × (length bytes ≤ most_bytes) × IsNotPlain bytes number)
+
+-- the first capture is judged whole, and then the second: this refusal comes first
+abbrev pub LinkRefusal : List File → Link → Refusal → Type 0
+LinkRefusal files l r = IsRefused files l.up r ⊎ ((ms : List Marked) × IsTaken files l.up ms × IsRefused files l.down r)
+
+-- what is printed: the table of both captures' records of the flow, those of the first point at shift 0 and those of the second at the smallest delay
+pub record IsLinkProduct (files : List File) (l : Link) (text : List ℕ) : Type 0 where
+  pub ups : List Marked
+  pub downs : List Marked
+  pub rows : List Row
+  pub up : IsTaken files l.up ups
+  pub down : IsTaken files l.down downs
+  pub table : IsTable (count_in (times_of l) l.flow 0 ups) (count_in (times_of l) l.flow l.shift downs) rows
+  pub printed : text ≡ table_text rows
+
+-- the file of this name is taken, and its records of the flow give these counts of each block
+abbrev pub TakesFile : List File → List ℕ → Times → ℕ → ℕ → (ℕ → ℕ) → Type 0
+TakesFile files name t flow shift counts =
+    (ms : List Marked) × IsTaken files name ms × ((block : ℕ) → counts block ≡ count_in t flow shift ms block)
+
+-- why the reading of one file may stop: it is refused, it can't be read, or memory runs out
+abbrev pub IsFileStop : Option Told → List ℕ → Stop → Type 0
+IsFileStop told name NoCommand = ⊥
+IsFileStop told name (Refused r) = (refused_name r ≡ name) × OnTold told (λ t. IsRefused t.files name r)
+IsFileStop told name (ReadFault fault) = fault ≡ name
+IsFileStop told name WriteFault = ⊥
+IsFileStop told name NoMemory = ⊤

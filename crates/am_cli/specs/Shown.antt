@@ -1,0 +1,40 @@
+-- What the program's own values say: a command, a stop.
+use Rattle.std.specs.Prelude.{ℕ, List}
+use Rattle.am_cli.specs.Commands as said
+use Rattle.am_cli.specs.Commands.{Link}
+use Rattle.am_cli.specs.Stops as told
+use Rattle.am_cli.specs.declared.words.LinkWords.{LinkWords}
+use Rattle.am_cli.specs.declared.words.Command.{Command}
+use Rattle.am_cli.specs.declared.words.Command.TheVariants.{Link as LinkCommand}
+use Rattle.am_cli.specs.declared.stop.Refusal.{Refusal}
+use Rattle.am_cli.specs.declared.stop.Refusal.TheVariants.{Missing, TooLong, NotPlain}
+use Rattle.am_cli.specs.declared.stop.Stop.{Stop}
+use Rattle.am_cli.specs.declared.stop.Stop.TheVariants.{NoCommand, Refused, ReadFault, WriteFault, NoMemory}
+
+-- what a `LinkWords` says
+abbrev pub link_shown : LinkWords → Link
+link_shown w = record {
+  block = w.timing.block;
+  shift = w.timing.delay_min;
+  flow = w.flow;
+  up = w.up.now;
+  down = w.down.now;
+}
+
+-- what a `Command` says
+abbrev pub command_shown : Command → said.Command
+command_shown (LinkCommand w) = said.Command.Linking (link_shown w)
+
+-- what a `Refusal` says
+abbrev pub refusal_shown : Refusal → told.Refusal
+refusal_shown (Missing name) = told.Refusal.Missing name.now
+refusal_shown (TooLong name) = told.Refusal.TooLong name.now
+refusal_shown (NotPlain name number) = told.Refusal.NotPlain name.now number
+
+-- what a `Stop` says
+abbrev pub stop_shown : Stop → told.Stop
+stop_shown NoCommand = told.Stop.NoCommand
+stop_shown (Refused r) = told.Stop.Refused (refusal_shown r)
+stop_shown (ReadFault name) = told.Stop.ReadFault name.now
+stop_shown WriteFault = told.Stop.WriteFault
+stop_shown NoMemory = told.Stop.NoMemory

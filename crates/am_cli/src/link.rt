@@ -1,0 +1,98 @@
+//! The command `link`: what entered at one point, what left at the next, and what was lost between them, block by block.
+ghost use Rattle.std.specs.Prelude.{◌≡◌, ◌≤◌, ◌^◌, ℕ, List, OnOk, IfErr};
+ghost use Rattle.std.specs.Io.KnownBytes.{append_known};
+ghost use Rattle.am_base.specs.Counts.{Rose};
+ghost use Rattle.am_base.specs.Shelves.{OnTold};
+ghost use Rattle.am_base.specs.Files.{KeepsFiles};
+ghost use Rattle.am_cli.specs.Commands.Command.{Linking};
+ghost use Rattle.am_cli.specs.Tallies.{tally, other, IsCounted};
+ghost use Rattle.am_cli.specs.Stops.{stop_status};
+ghost use Rattle.am_cli.specs.Link.{IsLinkProduct, IsFileStop, TakesFile};
+ghost use Rattle.am_cli.specs.Runs.{IsStopOf, LinkLeaves};
+ghost use Rattle.am_cli.specs.Shown.{link_shown, stop_shown};
+
+use crate::capture::{CountFault, count_capture};
+use crate::stop::{Refusal, Stop};
+use crate::table::{Side, Table};
+use crate::words::LinkWords;
+use am_base::{FileFault, Shelf, Sink, put, read_file};
+use am_clock::Timing;
+use std::alloc::Global;
+
+/// The most bytes of a capture, which is held in memory whole while it is counted.
+const MOST_BYTES: u32 = 16_777_216;
+
+/// Reads both captures, the first whole before the second, and prints the table of their flow's records: those of the
+/// first point at shift 0, those of the second at the smallest delay. Nothing is printed before both were accepted.
+pub fn link<'a, S: Shelf, O: Sink>(
+    alloc: Global,
+    words: &LinkWords<'a>,
+    shelf: &mut S,
+    out: &mut O,
+) -> Result<(), Stop<'a>>
+    ensures product { OnOk result (OnTold (S.told shelf.old) (λ t. (text : List ℕ) × IsLinkProduct t.files (link_shown words.now) text × (O.written out.new ≡ append_known (O.written out.old) text))) }
+    ensures stopped { IfErr result (λ s. IsStopOf (S.told shelf.old) (Linking (link_shown words.now)) (stop_shown s)) }
+    ensures leaves { IfErr result (λ s. (printed : List ℕ) × (O.written out.new ≡ append_known (O.written out.old) printed) × LinkLeaves (S.told shelf.old) (Linking (link_shown words.now)) (stop_shown s) printed) }
+    ensures missing { IfErr result (λ s. stop_status (stop_shown s) ≡ 4 → Rose (S.missed shelf.old) (S.missed shelf.new)) }
+    ensures read_fault { IfErr result (λ s. stop_status (stop_shown s) ≡ 5 → Rose (S.faults shelf.old) (S.faults shelf.new)) }
+    ensures write_fault { IfErr result (λ s. stop_status (stop_shown s) ≡ 6 → Rose (O.faults out.old) (O.faults out.new)) }
+{
+    let mut table = Table::new(alloc);
+    let timing = words.timing;
+    let shift = timing.delay_min();
+    match count_file(alloc, shelf, words.up, &timing, words.flow, 0, Side::Entered, &mut table) {
+        Ok(()) => {}
+        Err(stop) => return Err(stop),
+    }
+    match count_file(alloc, shelf, words.down, &timing, words.flow, shift, Side::Left, &mut table) {
+        Ok(()) => {}
+        Err(stop) => return Err(stop),
+    }
+    let Ok(text) = table.text(alloc) else {
+        return Err(Stop::NoMemory);
+    };
+    match put(out, text.as_bytes()) {
+        Ok(()) => Ok(()),
+        Err(_) => Err(Stop::WriteFault),
+    }
+}
+
+// Reads one capture whole, judges it, and counts its records of the flow on one side of the table.
+fn count_file<'a, S: Shelf>(
+    alloc: Global,
+    shelf: &mut S,
+    name: &'a str,
+    timing: &Timing,
+    flow: u32,
+    shift: u64,
+    side: Side,
+    table: &mut Table,
+) -> Result<(), Stop<'a>>
+    requires shift { shift ≤ 2 ^ 40 }
+    requires counted { IsCounted table.old }
+    requires fresh { (b : ℕ) → tally table.old side b ≡ 0 }
+    ensures counted { OnOk result (IsCounted table.new) }
+    ensures taken { OnOk result (OnTold (S.told shelf.old) (λ t. TakesFile t.files name.now timing.now flow shift (tally table.new side))) }
+    ensures other { OnOk result ((b : ℕ) → tally table.new (other side) b ≡ tally table.old (other side) b) }
+    ensures stopped { IfErr result (λ s. IsFileStop (S.told shelf.old) name.now (stop_shown s)) }
+    ensures missing { IfErr result (λ s. stop_status (stop_shown s) ≡ 4 → Rose (S.missed shelf.old) (S.missed shelf.new)) }
+    ensures read_fault { IfErr result (λ s. stop_status (stop_shown s) ≡ 5 → Rose (S.faults shelf.old) (S.faults shelf.new)) }
+    ensures files { KeepsFiles (S.told shelf.old) (S.told shelf.new) }
+    ensures faults_stay { S.faults shelf.old ≤ S.faults shelf.new }
+    ensures missed_stay { S.missed shelf.old ≤ S.missed shelf.new }
+{
+    let bytes = match read_file(alloc, shelf, name, MOST_BYTES) {
+        Ok(bytes) => bytes,
+        Err(FileFault::Missing) => return Err(Stop::Refused(Refusal::Missing { name })),
+        Err(FileFault::ReadFault) => return Err(Stop::ReadFault { name }),
+        Err(FileFault::TooLong) => return Err(Stop::Refused(Refusal::TooLong { name })),
+        Err(FileFault::Memory) => return Err(Stop::NoMemory),
+    };
+    match count_capture(&bytes, timing, flow, shift, side, table) {
+        Ok(()) => Ok(()),
+        Err(CountFault::NotPlain { number }) => {
+            Err(Stop::Refused(Refusal::NotPlain { name, number }))
+        }
+        Err(CountFault::Memory) => Err(Stop::NoMemory),
+    }
+}

@@ -1,0 +1,111 @@
+//! What entered and what left, block by block, and the table of it.
+ghost use Rattle.std.specs.Prelude.{◌≡◌, ◌+◌, ◌^◌, ◌<◌, ◌++◌, ◌-ℤ◌, pos, ℕ, OnOk, IfOk, string_bytes};
+ghost use Rattle.am_cli.specs.Tables.{IsTable, row_line, table_text};
+ghost use Rattle.am_cli.specs.Tallies.{row_of};
+
+use std::alloc::{AllocError, Global};
+use std::collections::BTreeMap;
+use std::fmt::Write;
+
+/// The first line of the table: the names of its columns.
+const COLUMNS: &str = "block,in,out,lost\n";
+
+/// About how many bytes a line has.
+const LINE_SIZE: usize = 24;
+
+/// How many packets of a block entered and how many left.
+#[derive(Clone, Copy, Debug, PartialEq, Eq)]
+pub struct Counts {
+    pub entered: u64,
+    pub left: u64,
+}
+
+/// One of the two points: packets enter at the first, and leave at the second.
+#[derive(Clone, Copy, Debug, PartialEq, Eq)]
+pub enum Side {
+    Entered,
+    Left,
+}
+
+/// The counts of each block in which a packet entered or left.
+#[derive(Drop)]
+pub struct Table {
+    counts: BTreeMap<u64, Counts>,
+}
+
+impl Table {
+    ghost use Rattle.am_cli.specs.Tallies.{tally, other, IsCounted, rows_of, one_at};
+    ghost use Rattle.am_cli.specs.declared.table.Side.TheVariants.{Entered, Left};
+
+    /// The table of no packets.
+    pub fn new(alloc: Global) -> Table
+        ensures counted { IsCounted result }
+        ensures entered { (b : ℕ) → tally result Entered b ≡ 0 }
+        ensures left { (b : ℕ) → tally result Left b ≡ 0 }
+    {
+        Table {
+            counts: BTreeMap::new(alloc),
+        }
+    }
+
+    /// Counts one more packet of a block on one side.
+    pub fn count(&mut self, side: Side, block: u64) -> Result<(), AllocError>
+        requires counted { IsCounted self.old }
+        requires fits { tally self.old side block + 1 < 2 ^ 64 }
+        ensures counted { OnOk result (IsCounted self.new) }
+        ensures here { OnOk result ((b : ℕ) → tally self.new side b ≡ tally self.old side b + one_at block b) }
+        ensures there { OnOk result ((b : ℕ) → tally self.new (other side) b ≡ tally self.old (other side) b) }
+    {
+        let before = match self.counts.get(&block) {
+            Some(counts) => *counts,
+            None => Counts {
+                entered: 0,
+                left: 0,
+            },
+        };
+        let now = match side {
+            Side::Entered => Counts {
+                entered: before.entered + 1,
+                left: before.left,
+            },
+            Side::Left => Counts {
+                entered: before.entered,
+                left: before.left + 1,
+            },
+        };
+        self.counts.insert(block, now)?;
+        Ok(())
+    }
+
+    /// The text of the table: a line with the columns' names, and then one for each block, ascending.
+    pub fn text(&self, alloc: Global) -> Result<String, AllocError>
+        requires { IsCounted self.now }
+        ensures table { IfOk result (λ text. IsTable (tally self.now Entered) (tally self.now Left) (rows_of self.now)) }
+        ensures text { IfOk result (λ text. string_bytes text ≡ table_text (rows_of self.now)) }
+    {
+        let room = self.counts.len().saturating_mul(LINE_SIZE);
+        let mut text = String::with_capacity(alloc, room.saturating_add(COLUMNS.len()))?;
+        text.push_str(COLUMNS)?;
+        for (block, counts) in &self.counts {
+            push_row(&mut text, *block, *counts)?;
+        }
+        Ok(text)
+    }
+}
+
+// Adds the line of a block.
+fn push_row(text: &mut String, block: u64, counts: Counts) -> Result<(), AllocError>
+    ensures { OnOk result (string_bytes text.new ≡ string_bytes text.old ++ row_line (row_of block counts)) }
+{
+    let entered = counts.entered;
+    let left = counts.left;
+    let lost = lost(entered, left);
+    write!(text, "{block},{entered},{left},{lost}\n")
+}
+
+// How many packets entered and didn't leave; negative where more left.
+fn lost(entered: u64, left: u64) -> i128
+    ensures { result ≡ pos entered -ℤ pos left }
+{
+    i128::from(entered) - i128::from(left)
+}
