@@ -1,5 +1,5 @@
 -- What stands in a capture, as bytes: the file header, then records one after another (the pcap savefile format).
-use Rattle.std.specs.Prelude.{◌≡◌, ℕ, ◌+◌, ◌*◌, ◌^◌, ◌<◌, ◌≤◌, Bool, true, false, List, [], ◌∷◌, length, take, drop, slice_index}
+use Rattle.std.specs.Prelude.{◌≡◌, ℕ, ◌+◌, ◌*◌, ◌^◌, ◌≤◌, Bool, true, false, List, [], ◌∷◌, length, take, drop, slice_index}
 
 -- the 32-bit number at a place of the bytes, in the file's byte order: the lowest byte stands first, or last where the order is big-endian
 unfoldable pub word : Bool → List ℕ → ℕ → ℕ
