@@ -1,17 +1,14 @@
 -- What both files of `link` give together.
-use Rattle.std.proofs.Common.{◌≡◌, ℕ, ◌+◌, ◌<◌, ◌≤◌, List, [], ◌∷◌, length, map, take, Option, Some, None, refl, ap, sym, ◌∙◌, subst, inl, inr, arith}
-use Rattle.std.specs.Prelude.{All, Contains}
-use Rattle.std.specs.Io.KnownBytes.{append_known}
+use Rattle.std.proofs.Common.{◌≡◌, ℕ, List, Option, Some, None, sym, ◌∙◌, subst, inr, arith}
 use Rattle.std.proofs.lemmas.List.Elements.{All-weaker}
 use Rattle.am_base.specs.Shelves.{File, Told, OnTold}
 use Rattle.am_base.specs.Files.{KeepsFiles}
 use Rattle.am_clock.specs.Times.{Times}
 use Rattle.am_cli.specs.Commands.{Link}
-use Rattle.am_cli.specs.Link.{IsTaken, IsRefused, TakesFile, IsFileStop, LinkRefusal, IsLinkProduct, times_of}
-use Rattle.am_cli.specs.Marked.{Marked}
+use Rattle.am_cli.specs.Link.{IsRefused, TakesFile, IsFileStop, IsLinkProduct, times_of}
 use Rattle.am_cli.specs.Commands.Command.{Linking}
 use Rattle.am_cli.specs.Runs.{IsStopOf}
-use Rattle.am_cli.specs.Stops.{Stop, refused_name}
+use Rattle.am_cli.specs.Stops.{Stop}
 use Rattle.am_cli.specs.Stops.Stop.{NoCommand, Refused, ReadFault, WriteFault, NoMemory}
 use Rattle.am_cli.specs.Tables.{Row, IsTable, count_in, table_text}
 
@@ -39,10 +36,11 @@ pub second_stops :
     → IsFileStop after l.down s
     → IsStopOf before (Linking l) s
 second_stops before after l NoCommand t flow shift counts kept up h = absurd h
-second_stops before after l (Refused r) t flow shift counts kept up h =
-    ((1, (omega arith), sym h.0),
-    told_both before (λ told first second. inr (first.0, first.1, second)) up
-        (on_kept before after (λ files. IsRefused files l.down r) kept h.1))
+second_stops before after l (Refused r) t flow shift counts kept up h = (
+  (1, (omega arith), sym h.0),
+  told_both before (λ told first second. inr (first.0, first.1, second)) up
+      (on_kept before after (λ files. IsRefused files l.down r) kept h.1),
+)
 second_stops before after l (ReadFault name) t flow shift counts kept up h = (1, (omega arith), sym h)
 second_stops before after l WriteFault t flow shift counts kept up h = absurd h
 second_stops before after l NoMemory t flow shift counts kept up h = tt
@@ -86,4 +84,4 @@ link_prints before after l entered entered_after left_after rows text shift is k
       printed = printed;
     })
     up (on_kept before after (λ files. TakesFile files l.down (times_of l) l.flow l.shift left_after) kept
-        (subst (λ z. OnTold after (λ t. TakesFile t.files l.down (times_of l) l.flow z left_after)) is down))
+    (subst (λ z. OnTold after (λ t. TakesFile t.files l.down (times_of l) l.flow z left_after)) is down))

@@ -1,15 +1,12 @@
 -- What the words say, what a command prints and what is refused are one.
-use Rattle.std.proofs.Common.{◌≡◌, ℕ, ◌<◌, ◌≤◌, List, [], ◌∷◌, ◌++◌, length, take, Option, Some, None, refl, ap, sym, ◌∙◌, subst, inl, inr, arith}
-use Rattle.std.specs.Prelude.{◌⊎◌, Contains, Result, Ok, Err, IfErr}
-use Rattle.std.specs.Io.KnownBytes.{append_known}
-use Rattle.am_base.specs.Counts.{Rose}
+use Rattle.std.proofs.Common.{◌≡◌, ℕ, List, length, Option, Some, None, ap, sym, ◌∙◌, subst, inl, inr, arith}
+use Rattle.std.specs.Prelude.{Result, Ok, Err, IfErr}
 use Rattle.am_base.specs.Shelves.{File, Told, OnTold, file_named}
-use Rattle.am_base.specs.Files.{KeepsFiles, files_told}
 use Rattle.am_cli.specs.Commands.{Link, Command, Says, SaysLink, IsNoCommand}
 use Rattle.am_cli.specs.Commands.Command.{Linking}
-use Rattle.am_cli.specs.Link.{most_bytes, IsTaken, IsRefused, LinkRefusal, IsLinkProduct}
-use Rattle.am_cli.specs.Marked.{Marked, IsNotPlain, IsPlainCapture}
-use Rattle.am_cli.specs.Runs.{IsProduct, IsFirstRefusal, IsStopOf, IsBorneOut, IsToldAs, Leaves, LeavesOf, Prints, Refuses, IsFault}
+use Rattle.am_cli.specs.Link.{IsTaken, IsRefused, LinkRefusal, IsLinkProduct}
+use Rattle.am_cli.specs.Marked.{Marked, IsNotPlain}
+use Rattle.am_cli.specs.Runs.{IsProduct, IsFirstRefusal, IsStopOf, IsBorneOut, IsToldAs, Leaves, LeavesOf, Prints, Refuses}
 use Rattle.am_cli.specs.Stops.{Refusal, Stop, refusal_status, stop_status}
 use Rattle.am_cli.specs.Stops.Refusal.{Missing, TooLong, NotPlain}
 use Rattle.am_cli.specs.Stops.Stop.{NoCommand, Refused, ReadFault, WriteFault, NoMemory}
@@ -72,13 +69,13 @@ not_refused files name ms (NotPlain a k) t q =
 link_refused_once : (files : List File) (l : Link) (r s : Refusal) → LinkRefusal files l r → LinkRefusal files l s → r ≡ s
 link_refused_once files l r s p q =
     elim p [
-      inl a ↦ elim q [
-        inl b ↦ refused_once files l.up r s a b
-      | inr b ↦ absurd (not_refused files l.up b.0 r b.1 a)
+      | inl a ↦ elim q [
+        | inl b ↦ refused_once files l.up r s a b
+        | inr b ↦ absurd (not_refused files l.up b.0 r b.1 a)
       ]
-    | inr a ↦ elim q [
-        inl b ↦ absurd (not_refused files l.up a.0 s a.1 b)
-      | inr b ↦ refused_once files l.down r s a.2 b.2
+      | inr a ↦ elim q [
+        | inl b ↦ absurd (not_refused files l.up a.0 s a.1 b)
+        | inr b ↦ refused_once files l.down r s a.2 b.2
       ]
     ]
 
@@ -86,8 +83,8 @@ link_refused_once files l r s p q =
 link_not_refused : (files : List File) (l : Link) (text : List ℕ) (r : Refusal) → IsLinkProduct files l text → LinkRefusal files l r → ⊥
 link_not_refused files l text r p q =
     elim q [
-      inl a ↦ not_refused files l.up p.ups r p.up a
-    | inr a ↦ not_refused files l.down p.downs r p.down a.2
+      | inl a ↦ not_refused files l.up p.ups r p.up a
+      | inr a ↦ not_refused files l.down p.downs r p.down a.2
     ]
 
 pub first_once : (files : List File) (c : Command) (r s : Refusal) → IsFirstRefusal files c r → IsFirstRefusal files c s → r ≡ s
@@ -131,15 +128,15 @@ pub told_leaves : (words : List (List ℕ)) (told : Option Told) (stop s : Stop)
 told_leaves words told NoCommand s printed e h = subst (λ x. LeavesOf words told x printed) (sym e) h
 told_leaves words told (Refused r) s printed e h =
     elim e [
-      inl same ↦ subst (λ x. LeavesOf words told x printed) (sym same) h
-    | inr none ↦ subst (λ x. LeavesOf words told x printed) (sym none)
-        (elim h [ inl unsaid ↦ inl unsaid | inr said ↦ inr (said.0, said.1, named_leaves told said.0 r printed said.2) ])
+      | inl same ↦ subst (λ x. LeavesOf words told x printed) (sym same) h
+      | inr none ↦ subst (λ x. LeavesOf words told x printed) (sym none)
+          (elim h [ inl unsaid ↦ inl unsaid | inr said ↦ inr (said.0, said.1, named_leaves told said.0 r printed said.2) ])
     ]
 told_leaves words told (ReadFault name) s printed e h =
     elim e [
-      inl same ↦ subst (λ x. LeavesOf words told x printed) (sym same) h
-    | inr none ↦ subst (λ x. LeavesOf words told x printed) (sym none)
-        (elim h [ inl unsaid ↦ inl unsaid | inr said ↦ inr (said.0, said.1, fault_leaves told said.0 name printed said.2) ])
+      | inl same ↦ subst (λ x. LeavesOf words told x printed) (sym same) h
+      | inr none ↦ subst (λ x. LeavesOf words told x printed) (sym none)
+          (elim h [ inl unsaid ↦ inl unsaid | inr said ↦ inr (said.0, said.1, fault_leaves told said.0 name printed said.2) ])
     ]
 told_leaves words told WriteFault s printed e h = subst (λ x. LeavesOf words told x printed) (sym e) h
 told_leaves words told NoMemory s printed e h = subst (λ x. LeavesOf words told x printed) (sym e) h

@@ -1,5 +1,5 @@
 -- The text of a row, and the rows of a map.
-use Rattle.std.proofs.Common.{◌≡◌, ℕ, ◌+◌, ◌<◌, ◌≤◌, List, [], ◌∷◌, ◌++◌, length, map, get_or, Option, Some, None, Result, Ok, Err, decimal, refl, ap, sym, ◌∙◌, subst, arith, append_assoc}
+use Rattle.std.proofs.Common.{◌≡◌, ℕ, ◌+◌, ◌<◌, List, [], ◌∷◌, ◌++◌, map, get_or, Option, Some, None, Result, Ok, Err, decimal, refl, ap, sym, subst, arith, append_assoc}
 use Rattle.std.specs.Prelude.{ℤ, pos, ◌-ℤ◌, OnOk}
 use Rattle.std.specs.Fmt.{signed_decimal}
 use Rattle.std.specs.Prelude.{All, Contains, IsSome, IfSome, unwrap_or, option_map}

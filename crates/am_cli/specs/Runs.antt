@@ -1,5 +1,5 @@
 -- What a run of the program does: by cases on the command, what it prints, which refusal comes first, and what a stop leaves of what was printed.
-use Rattle.std.specs.Prelude.{◌≡◌, ◌⊎◌, ℕ, ◌≤◌, List, [], ◌∷◌, length, take, Option, Contains, ⊤}
+use Rattle.std.specs.Prelude.{◌≡◌, ◌⊎◌, ℕ, List, [], take, Option, Contains, ⊤}
 use Rattle.std.specs.Io.KnownBytes.{append_known}
 use Rattle.am_base.specs.Counts.{Rose}
 use Rattle.am_base.specs.Shelves.{File, Told, OnTold}
@@ -18,17 +18,17 @@ IsProduct files (Linking l) text = IsLinkProduct files l text
 abbrev pub IsFirstRefusal : List File → Command → Refusal → Type 0
 IsFirstRefusal files (Linking l) r = LinkRefusal files l r
 
--- `link` prints nothing before all its input was accepted: a failed write leaves a front of what it prints, and any other stop leaves nothing
-abbrev pub LinkLeaves : Option Told → Command → Stop → List ℕ → Type 0
-LinkLeaves told c NoCommand printed = printed ≡ []
-LinkLeaves told c (Refused r) printed = printed ≡ []
-LinkLeaves told c (ReadFault name) printed = printed ≡ []
-LinkLeaves told c WriteFault printed = OnTold told (λ t. (text : List ℕ) × IsProduct t.files c text × (k : ℕ) × (printed ≡ take k text))
-LinkLeaves told c NoMemory printed = printed ≡ []
+-- a command that prints nothing before all its input was accepted: a failed write leaves a front of what it prints, and any other stop leaves nothing
+abbrev pub PrintsLast : Option Told → Command → Stop → List ℕ → Type 0
+PrintsLast told c NoCommand printed = printed ≡ []
+PrintsLast told c (Refused r) printed = printed ≡ []
+PrintsLast told c (ReadFault name) printed = printed ≡ []
+PrintsLast told c WriteFault printed = OnTold told (λ t. (text : List ℕ) × IsProduct t.files c text × (k : ℕ) × (printed ≡ take k text))
+PrintsLast told c NoMemory printed = printed ≡ []
 
 -- what was printed where a command stopped so
 abbrev pub Leaves : Option Told → Command → Stop → List ℕ → Type 0
-Leaves told (Linking l) stop printed = LinkLeaves told (Linking l) stop printed
+Leaves told (Linking l) stop printed = PrintsLast told (Linking l) stop printed
 
 -- a command may stop so: for one of its files, where they are told by its first refusal; because it can't write; or because memory runs out
 abbrev pub IsStopOf : Option Told → Command → Stop → Type 0

@@ -1,5 +1,4 @@
 -- What the program's own values say: a command, a stop.
-use Rattle.std.specs.Prelude.{ℕ, List}
 use Rattle.am_cli.specs.Commands as said
 use Rattle.am_cli.specs.Commands.{Link}
 use Rattle.am_cli.specs.Stops as told

@@ -1,5 +1,5 @@
 -- The table of blocks that `link` prints.
-use Rattle.std.specs.Prelude.{◌≡◌, ℕ, ◌+◌, ◌<◌, ◌&&◌, ◌==◌, Bool, List, [], ◌∷◌, ◌++◌, map, flat_map, All, Contains, count_by, codes, decimal, pos, ◌-ℤ◌}
+use Rattle.std.specs.Prelude.{◌≡◌, ℕ, ◌+◌, ◌<◌, ◌&&◌, ◌==◌, Bool, List, ◌++◌, map, flat_map, All, Contains, count_by, codes, decimal, pos, ◌-ℤ◌}
 use Rattle.std.specs.Fmt.{signed_decimal}
 use Rattle.std.specs.List.Sorted.{IsStrictlyIncreasing}
 use Rattle.am_clock.specs.Times.{Times, belongs_to}

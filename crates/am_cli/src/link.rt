@@ -8,7 +8,7 @@ ghost use Rattle.am_cli.specs.Commands.Command.{Linking};
 ghost use Rattle.am_cli.specs.Tallies.{tally, other, IsCounted};
 ghost use Rattle.am_cli.specs.Stops.{stop_status};
 ghost use Rattle.am_cli.specs.Link.{IsLinkProduct, IsFileStop, TakesFile};
-ghost use Rattle.am_cli.specs.Runs.{IsStopOf, LinkLeaves};
+ghost use Rattle.am_cli.specs.Runs.{IsStopOf, PrintsLast};
 ghost use Rattle.am_cli.specs.Shown.{link_shown, stop_shown};
 
 use crate::capture::{CountFault, count_capture};
@@ -32,7 +32,7 @@ pub fn link<'a, S: Shelf, O: Sink>(
 ) -> Result<(), Stop<'a>>
     ensures product { OnOk result (OnTold (S.told shelf.old) (λ t. (text : List ℕ) × IsLinkProduct t.files (link_shown words.now) text × (O.written out.new ≡ append_known (O.written out.old) text))) }
     ensures stopped { IfErr result (λ s. IsStopOf (S.told shelf.old) (Linking (link_shown words.now)) (stop_shown s)) }
-    ensures leaves { IfErr result (λ s. (printed : List ℕ) × (O.written out.new ≡ append_known (O.written out.old) printed) × LinkLeaves (S.told shelf.old) (Linking (link_shown words.now)) (stop_shown s) printed) }
+    ensures leaves { IfErr result (λ s. (printed : List ℕ) × (O.written out.new ≡ append_known (O.written out.old) printed) × PrintsLast (S.told shelf.old) (Linking (link_shown words.now)) (stop_shown s) printed) }
     ensures missing { IfErr result (λ s. stop_status (stop_shown s) ≡ 4 → Rose (S.missed shelf.old) (S.missed shelf.new)) }
     ensures read_fault { IfErr result (λ s. stop_status (stop_shown s) ≡ 5 → Rose (S.faults shelf.old) (S.faults shelf.new)) }
     ensures write_fault { IfErr result (λ s. stop_status (stop_shown s) ≡ 6 → Rose (O.faults out.old) (O.faults out.new)) }
@@ -40,11 +40,29 @@ pub fn link<'a, S: Shelf, O: Sink>(
     let mut table = Table::new(alloc);
     let timing = words.timing;
     let shift = timing.delay_min();
-    match count_file(alloc, shelf, words.up, &timing, words.flow, 0, Side::Entered, &mut table) {
+    match count_file(
+        alloc,
+        shelf,
+        words.up,
+        &timing,
+        words.flow,
+        0,
+        Side::Entered,
+        &mut table,
+    ) {
         Ok(()) => {}
         Err(stop) => return Err(stop),
     }
-    match count_file(alloc, shelf, words.down, &timing, words.flow, shift, Side::Left, &mut table) {
+    match count_file(
+        alloc,
+        shelf,
+        words.down,
+        &timing,
+        words.flow,
+        shift,
+        Side::Left,
+        &mut table,
+    ) {
         Ok(()) => {}
         Err(stop) => return Err(stop),
     }

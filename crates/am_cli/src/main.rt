@@ -11,9 +11,8 @@ mod stop;
 mod table;
 mod words;
 
-pub use run::run;
-
 use am_base::{DiskShelf, StdSink};
+pub use run::run;
 use std::alloc::Global;
 use std::env;
 use std::io::ErrorKind;

@@ -72,7 +72,10 @@ fn not_plain(alloc: Global, name: &str, number: u64) -> Result<String, AllocErro
     ensures { IfOk result (λ line. string_bytes line ≡ refusal_line (told.Refusal.NotPlain name.now number)) }
 {
     let mut line = String::new(alloc);
-    write!(line, "altmark: {name}: capture is not plain: record {number}\n")?;
+    write!(
+        line,
+        "altmark: {name}: capture is not plain: record {number}\n"
+    )?;
     Ok(line)
 }
 

@@ -46,14 +46,26 @@ pub fn command_of(words: &[String]) -> Option<Command<'_>>
     if name.as_str() != "link" {
         return None;
     }
-    match link_words(block.as_str(), shift.as_str(), flow.as_str(), up.as_str(), down.as_str()) {
+    match link_words(
+        block.as_str(),
+        shift.as_str(),
+        flow.as_str(),
+        up.as_str(),
+        down.as_str(),
+    ) {
         Some(link) => Some(Command::Link(link)),
         None => None,
     }
 }
 
 // What stands behind `link`.
-fn link_words<'a>(block: &str, shift: &str, flow: &str, up: &'a str, down: &'a str) -> Option<LinkWords<'a>>
+fn link_words<'a>(
+    block: &str,
+    shift: &str,
+    flow: &str,
+    up: &'a str,
+    down: &'a str,
+) -> Option<LinkWords<'a>>
     ensures only { IfSome result (λ w. SaysNumbers block.now shift.now flow.now (link_shown w)) }
     ensures up { IfSome result (λ w. w.up.now ≡ up.now) }
     ensures down { IfSome result (λ w. w.down.now ≡ down.now) }

@@ -5,7 +5,7 @@ use Rattle.am_cli.proofs.words.command_of.Goals as goal
 pub returns-in-Some-clause-only : goal.returns-in-Some-clause-only
 returns-in-Some-clause-only c =
     let words = six string_bytes c.args.words.now c.name-item.result c.block-item.result c.shift-item.result c.flow-item.result c.up-item.result c.down-item.result (omega arith) (omega arith)
-        c.name-item.is c.block-item.is c.shift-item.is c.flow-item.is c.up-item.is c.down-item.is in
+    c.name-item.is c.block-item.is c.shift-item.is c.flow-item.is c.up-item.is c.down-item.is in
     let name : c.as_str.result.now ≡ codes "link" = same_text _ _ c.if-ne.ensures in
     record {
       block_word = c.as_str-2.result.now;
