@@ -1,5 +1,5 @@
 -- When four numbers are no timing, and what is then said of them: the first of six faults.
-use Rattle.std.specs.Prelude.{◌≡◌, ℕ, ◌%◌, ◌^◌, ◌<◌, ◌≤◌}
+use Rattle.std.specs.Prelude.{◌≡◌, ◌%◌, ◌^◌, ◌<◌, ◌≤◌}
 use Rattle.am_clock.specs.Times.{Times, half, guard}
 use Rattle.am_clock.specs.declared.timing.TimingError.{TimingError}
 use Rattle.am_clock.specs.declared.timing.TimingError.TheVariants.{ZeroBlock, OddBlock, BlockTooLong, DelayTooLong, BoundsCrossed, GuardTooWide}

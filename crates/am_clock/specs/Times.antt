@@ -8,6 +8,11 @@ pub record Times : Type 0 where
   pub delay_min : ℕ
   pub delay_max : ℕ
 
+-- the four numbers together
+abbrev pub times_of : ℕ → ℕ → ℕ → ℕ → Times
+times_of block skew delay_min delay_max =
+    record { block = block; skew = skew; delay_min = delay_min; delay_max = delay_max }
+
 -- half a block
 abbrev pub half : Times → ℕ
 half t = t.block / 2

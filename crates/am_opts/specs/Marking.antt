@@ -7,6 +7,10 @@ pub record Marking : Type 0 where
   pub loss : Bool
   pub delay : Bool
 
+-- the mark with these three parts
+abbrev pub mark_of : ℕ → Bool → Bool → Marking
+mark_of flow loss delay = record { flow = flow; loss = loss; delay = delay }
+
 -- a bit as a number
 abbrev pub bit : Bool → ℕ
 bit true = 1

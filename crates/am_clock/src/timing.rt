@@ -1,0 +1,318 @@
+//! The numbers of a measurement's time, and which block a record belongs to.
+
+ghost use Rattle.std.specs.Prelude.{◌≡◌, ℕ, ◌+◌, ◌*◌, ◌/◌, ◌%◌, ◌^◌, ◌<◌, ◌≤◌, IsTrue, IfOk, IfErr, IfSome, IfNone, Ok, Err, Some, None};
+ghost use Rattle.am_clock.specs.Times.{Times, times_of, half, IsTiming, parity, IsMarkedIn, belongs_to};
+ghost use Rattle.am_clock.specs.Epochs.{IsEpoch, Means};
+ghost use Rattle.am_clock.specs.Refusals.{IsFirstFault};
+
+use std::marker::Model;
+
+// The longest block, and the longest delay of a link, in nanoseconds: about 18 minutes. It bounds the width
+// of a window and its shift, so that a reading's offset in its block stays below 2^42.
+const LONGEST: u64 = 1 << 40;
+
+/// The numbers of a measurement's time, all in nanoseconds: how long a block lasts, how far two clocks
+/// may differ, and the least and the greatest delay of a link.
+///
+/// The guard band, which is the skew and the spread of the delay, is below half a block (RFC 9341,
+/// section 5).
+#[derive(Clone, Copy, Debug, PartialEq, Eq)]
+pub struct Timing {
+    block: u64,
+    skew: u64,
+    delay_min: u64,
+    delay_max: u64,
+}
+
+impl Model for Timing {
+    ghost use Rattle.am_clock.specs.Times.{Times, times_of, IsTiming};
+
+    ghost Value = { Times };
+
+    ghost view = { λ t. times_of t.block t.skew t.delay_min t.delay_max };
+
+    ghost invariant = { λ t. IsTiming (times_of t.block t.skew t.delay_min t.delay_max) };
+
+    ghost inverse = { λ t. record { block = t.block; skew = t.skew; delay_min = t.delay_min; delay_max = t.delay_max } };
+}
+
+/// Why four numbers are no timing. The first fault in this order is the one that is told.
+#[derive(Clone, Copy, Debug, PartialEq, Eq)]
+pub enum TimingError {
+    /// The block lasts no time.
+    ZeroBlock,
+    /// The block has an odd number of nanoseconds, so it has no half.
+    OddBlock,
+    /// The block lasts more than 2^40 nanoseconds.
+    BlockTooLong,
+    /// The greatest delay is more than 2^40 nanoseconds.
+    DelayTooLong,
+    /// The least delay is above the greatest.
+    BoundsCrossed,
+    /// The guard band is not below half a block, so a packet of one block could be taken for one of
+    /// another (RFC 9341, section 5). Both are in nanoseconds.
+    GuardTooWide { guard: u128, half: u64 },
+}
+
+impl Timing {
+    /// The timing with these numbers, all in nanoseconds, or the first fault that they have, in the
+    /// order of `TimingError`.
+    pub fn new(block: u64, skew: u64, delay_min: u64, delay_max: u64) -> Result<Timing, TimingError>
+        ensures ok { IfOk result (λ t. t ≡ times_of block skew delay_min delay_max) }
+        ensures valid { IfOk result (λ t. IsTiming t) }
+        ensures accepted { IsTiming (times_of block skew delay_min delay_max)
+            → result ≡ Ok (times_of block skew delay_min delay_max) }
+        ensures fault { IfErr result (λ e. IsFirstFault (times_of block skew delay_min delay_max) e) }
+        ensures refused { (e : TimingError) → IsFirstFault (times_of block skew delay_min delay_max) e → result ≡ Err e }
+    {
+        match first_fault(block, skew, delay_min, delay_max) {
+            Some(fault) => Err(fault),
+            None => Ok(Timing {
+                block,
+                skew,
+                delay_min,
+                delay_max,
+            }),
+        }
+    }
+
+    /// How long a block lasts, in nanoseconds: an even number from 2 to 2^40.
+    pub fn block(&self) -> u64
+        ensures value { result ≡ self.now.block }
+        ensures valid { IsTiming self.now }
+    {
+        self.block
+    }
+
+    /// How far two clocks may differ, in nanoseconds.
+    pub fn skew(&self) -> u64
+        ensures { result ≡ self.now.skew }
+    {
+        self.skew
+    }
+
+    /// The least delay of a link, in nanoseconds.
+    pub fn delay_min(&self) -> u64
+        ensures { result ≡ self.now.delay_min }
+    {
+        self.delay_min
+    }
+
+    /// The greatest delay of a link, in nanoseconds: at most 2^40.
+    pub fn delay_max(&self) -> u64
+        ensures { result ≡ self.now.delay_max }
+    {
+        self.delay_max
+    }
+
+    /// The block that a packet is marked in where the marking node's clock reads this many nanoseconds
+    /// (RFC 9341, section 3.1). Blocks count from 0, which begins at reading 0.
+    pub fn block_of(&self, reading: u64) -> u64
+        ensures { IsMarkedIn self.now reading result }
+    {
+        reading / self.block
+    }
+
+    /// The block that a record with this reading and colour belongs to at a node of this shift (RFC
+    /// 9341, section 5). Reading and shift are in nanoseconds, and the shift is at most 2^40.
+    ///
+    /// A block's window begins half a block before the block and ends half a block after it, both later
+    /// by the shift. The windows of one colour touch and do not overlap. There is no block exactly where
+    /// the reading is before the first window of the colour.
+    pub fn attribute(&self, reading: u64, colour: bool, shift: u64) -> Option<u64>
+        requires { shift ≤ 2 ^ 40 }
+
+        // There is at most one such block, and it is found.
+        ensures found { (n : ℕ) → IsTrue (belongs_to self.now reading colour shift n) → result ≡ Some n }
+        ensures belongs { IfSome result (λ n. IsTrue (belongs_to self.now reading colour shift n)) }
+        ensures none { IfNone result (reading + half self.now < parity colour * self.now.block + shift) }
+        ensures early { reading + half self.now < parity colour * self.now.block + shift → result ≡ None }
+    {
+        let Some(epoch) = self.epoch(reading, shift) else {
+            return None;
+        };
+        epoch_block(epoch, colour)
+    }
+
+    // The epoch of the reading: the last block whose window has begun. None where no window has.
+    fn epoch(&self, reading: u64, shift: u64) -> Option<u64>
+        requires { shift ≤ 2 ^ 40 }
+        ensures valid { IsTiming self.now }
+        ensures epoch { IfSome result (λ n. IsEpoch self.now reading shift n) }
+        ensures none { IfNone result (reading + half self.now < shift) }
+    {
+        let half = self.block / 2;
+        if reading < shift {
+            if shift - reading <= half {
+                return Some(0);
+            }
+            return None;
+        }
+        Some(rounded(reading - shift, self.block))
+    }
+}
+
+// The first fault of four numbers, if they have one.
+fn first_fault(block: u64, skew: u64, delay_min: u64, delay_max: u64) -> Option<TimingError>
+    ensures found { IfSome result (λ e. IsFirstFault (times_of block skew delay_min delay_max) e) }
+    ensures valid { IfNone result (IsTiming (times_of block skew delay_min delay_max)) }
+{
+    if block == 0 {
+        return Some(TimingError::ZeroBlock);
+    }
+    if block % 2 == 1 {
+        return Some(TimingError::OddBlock);
+    }
+    if block > LONGEST {
+        return Some(TimingError::BlockTooLong);
+    }
+    if delay_max > LONGEST {
+        return Some(TimingError::DelayTooLong);
+    }
+    if delay_min > delay_max {
+        return Some(TimingError::BoundsCrossed);
+    }
+    let guard = skew as u128 + (delay_max - delay_min) as u128;
+    let half = block / 2;
+    if guard >= half as u128 {
+        return Some(TimingError::GuardTooWide { guard, half });
+    }
+    None
+}
+
+// How many blocks have passed, to the nearest whole number; half a block counts as one.
+fn rounded(since: u64, block: u64) -> u64
+    requires nonzero { 0 < block }
+    requires even { block % 2 ≡ 0 }
+    ensures from { result * block ≤ since + block / 2 }
+    ensures until { since + block / 2 < result * block + block }
+{
+    let whole = since / block;
+    if since % block >= block / 2 {
+        whole + 1
+    } else {
+        whole
+    }
+}
+
+// The block that the colour means in this epoch: the epoch itself where it has the colour, else the one
+// before. Before epoch 0 there is none.
+fn epoch_block(epoch: u64, colour: bool) -> Option<u64>
+    ensures { Means epoch colour result }
+{
+    if colour_of(epoch) == colour {
+        return Some(epoch);
+    }
+    epoch.checked_sub(1)
+}
+
+/// The colour of a block's marks: true exactly where the block's number is odd (RFC 9341, section 3.1).
+pub fn colour_of(block: u64) -> bool
+    ensures { block % 2 ≡ parity result }
+{
+    block % 2 == 1
+}
+
+#[cfg(test)]
+mod tests {
+    use super::*;
+
+    const SECOND: u64 = 1_000_000_000;
+
+    #[test]
+    fn colour_and_reading_name_one_block_or_none(rt: HostRuntime) {
+        let timing = Timing::new(10 * SECOND, SECOND, 0, 2 * SECOND).expect(&rt, "a timing");
+        for (reading, colour, wanted) in [
+            (10_200_000_000, false, Some(0)),
+            (14_999_999_999, false, Some(0)),
+            (15_000_000_000, false, Some(2)),
+            (4_999_999_999, true, None),
+            (5_000_000_000, true, Some(1)),
+            (u64::MAX, true, Some(1_844_674_407)),
+            (u64::MAX, false, Some(1_844_674_406)),
+        ] {
+            assert_eq!(rt;
+                timing.attribute(reading, colour, 0),
+                wanted,
+                "at {reading}"
+            );
+        }
+    }
+
+    #[test]
+    fn windows_are_later_by_the_shift(rt: HostRuntime) {
+        let timing = Timing::new(10 * SECOND, SECOND, 0, 2 * SECOND).expect(&rt, "a timing");
+        assert_eq!(rt; timing.attribute(6_999_999_999, false, 12 * SECOND), None);
+        assert_eq!(rt;
+            timing.attribute(7_000_000_000, false, 12 * SECOND),
+            Some(0)
+        );
+        assert_eq!(rt;
+            timing.attribute(u64::MAX, true, 1 << 40),
+            Some(1_844_674_297)
+        );
+    }
+
+    #[test]
+    fn the_shortest_block_reaches_the_last_reading(rt: HostRuntime) {
+        let timing = Timing::new(2, 0, 7, 7).expect(&rt, "a timing");
+        assert_eq!(rt; timing.attribute(u64::MAX, false, 0), Some(1 << 63));
+        assert_eq!(rt; timing.attribute(u64::MAX, true, 0), Some((1 << 63) - 1));
+        assert_eq!(rt; timing.block_of(u64::MAX), (1 << 63) - 1);
+        assert_eq!(rt; colour_of(timing.block_of(u64::MAX)), true);
+    }
+
+    #[test]
+    fn the_first_fault_is_told(rt: HostRuntime) {
+        for (block, skew, delay_min, delay_max, wanted) in [
+            (0, SECOND, 0, SECOND, TimingError::ZeroBlock),
+            (9, SECOND, 0, SECOND, TimingError::OddBlock),
+            (
+                1_099_511_627_778,
+                SECOND,
+                0,
+                SECOND,
+                TimingError::BlockTooLong,
+            ),
+            (
+                10 * SECOND,
+                SECOND,
+                0,
+                1_099_511_627_777,
+                TimingError::DelayTooLong,
+            ),
+            (10 * SECOND, SECOND, 3, 2, TimingError::BoundsCrossed),
+            (
+                10 * SECOND,
+                SECOND,
+                0,
+                4 * SECOND,
+                TimingError::GuardTooWide {
+                    guard: 5_000_000_000,
+                    half: 5_000_000_000,
+                },
+            ),
+            (
+                10 * SECOND,
+                u64::MAX,
+                0,
+                1,
+                TimingError::GuardTooWide {
+                    guard: 18_446_744_073_709_551_616,
+                    half: 5_000_000_000,
+                },
+            ),
+        ] {
+            assert_eq!(rt; Timing::new(block, skew, delay_min, delay_max), Err(wanted));
+        }
+    }
+
+    #[test]
+    fn the_widest_guard_below_half_a_block_is_accepted(rt: HostRuntime) {
+        let timing = Timing::new(10 * SECOND, SECOND, 0, 3_999_999_999).expect(&rt, "a timing");
+        assert_eq!(rt; timing.block(), 10 * SECOND);
+        assert_eq!(rt; timing.skew(), SECOND);
+        assert_eq!(rt; timing.delay_min(), 0);
+        assert_eq!(rt; timing.delay_max(), 3_999_999_999);
+    }
+}

@@ -1,0 +1,80 @@
+-- What the bytes of a spelling are, and that they spell one mark.
+use Rattle.std.proofs.Common.{arith, refl, ap, ◌≡◌, ℕ, ◌+◌, ◌*◌, ◌^◌, ◌<◌, ◌≤◌, ◌-◌, Bool, true, false, List, [], ◌∷◌, length, take, drop, slice_index_or, ◌++◌}
+use Rattle.std.proofs.lemmas.List.{take-append-drop}
+use Rattle.am_opts.specs.Marking.{Marking, bit, data_of, Spells}
+
+-- the big-endian number of the data: the four bytes behind type and length
+abbrev pub word_of : List ℕ → ℕ
+word_of bs =
+    slice_index_or bs 2 0 * 2 ^ 24 + slice_index_or bs 3 0 * 2 ^ 16 + slice_index_or bs 4 0 * 2 ^ 8 + slice_index_or bs 5 0
+
+-- six bytes and more begin with their first six
+six :
+    (bs : List ℕ) (t l : ℕ) → 6 ≤ length bs → slice_index_or bs 0 0 ≡ t → slice_index_or bs 1 0 ≡ l
+    → take 6 bs
+    ≡ t ∷ l ∷ slice_index_or bs 2 0 ∷ slice_index_or bs 3 0 ∷ slice_index_or bs 4 0 ∷ slice_index_or bs 5 0 ∷ []
+six [] t l h i j = absurd (omega (arith, h))
+six (a ∷ []) t l h i j = absurd (grind arith)
+six (a ∷ b ∷ []) t l h i j = absurd (grind arith)
+six (a ∷ b ∷ d ∷ []) t l h i j = absurd (grind arith)
+six (a ∷ b ∷ d ∷ e ∷ []) t l h i j = absurd (grind arith)
+six (a ∷ b ∷ d ∷ e ∷ f ∷ []) t l h i j = absurd (grind arith)
+six (a ∷ b ∷ d ∷ e ∷ f ∷ g ∷ rest) t l h i j = rw (i, j) refl
+
+-- two marks whose data is the same word are the same
+same_flow :
+    (f g a b d e r word : ℕ)
+    → f * 4096 + a * 2048 + b * 1024 + r ≡ word → r < 1024 → a ≤ 1 → b ≤ 1
+    → g * 4096 + d * 2048 + e * 1024 ≤ word → word < g * 4096 + d * 2048 + e * 1024 + 1024 → d ≤ 1 → e ≤ 1
+    → (g ≡ f) × (d ≡ a) × (e ≡ b)
+same_flow f g a b d e r word p q s t u v w x = (omega arith, omega arith, omega arith)
+
+-- the word of bytes of which some prefix is a spelling
+spelled_word :
+    (bs : List ℕ) (n x y z w : ℕ) → take n bs ≡ 18 ∷ 4 ∷ x ∷ y ∷ z ∷ w ∷ []
+    → word_of bs ≡ x * 2 ^ 24 + y * 2 ^ 16 + z * 2 ^ 8 + w
+spelled_word bs n x y z w e =
+    let whole : bs ≡ (18 ∷ 4 ∷ x ∷ y ∷ z ∷ w ∷ []) ++ drop n bs =
+    cc (take-append-drop n bs, e)
+    in ap word_of whole
+
+-- bits are numbers of their own
+bit-injective : (a b : Bool) → bit a ≡ bit b → a ≡ b
+bit-injective true true e = refl
+bit-injective true false e = absurd (omega (arith, e))
+bit-injective false true e = absurd (omega (arith, e))
+bit-injective false false e = refl
+
+bit-le : (a : Bool) → bit a ≤ 1
+bit-le true = omega arith
+bit-le false = omega arith
+
+-- marks of the same parts are the same
+same_parts : (m k : Marking) → m.flow ≡ k.flow → m.loss ≡ k.loss → m.delay ≡ k.delay → m ≡ k
+same_parts m k e f g = grind arith
+
+-- a mark whose data is the word but for reserved bits is the mark that a prefix spells
+pub spells-one :
+    (bs : List ℕ) (n word : ℕ) (m mark : Marking) → word ≡ word_of bs
+    → data_of m 0 ≤ word → word < data_of m 0 + 2 ^ 10 → Spells (take n bs) mark → m ≡ mark
+spells-one bs n word m mark is from until s =
+    let e = spelled_word bs n s.x s.y s.z s.w s.spelled in
+    let parts = same_flow mark.flow m.flow (bit mark.loss) (bit mark.delay) (bit m.loss) (bit m.delay) s.reserved word
+    (cc (s.bits, e, is)) s.below (bit-le _) (bit-le _) (omega (arith, from)) (omega (arith, until)) (bit-le _) (bit-le _)
+    in same_parts m mark parts.0 (bit-injective _ _ parts.1) (bit-injective _ _ parts.2)
+
+-- type, length and a mark's data spell it
+pub spells-six :
+    (bs : List ℕ) (word : ℕ) (m : Marking) → 6 ≤ length bs → slice_index_or bs 0 0 ≡ 18 → slice_index_or bs 1 0 ≡ 4
+    → word ≡ word_of bs → data_of m 0 ≤ word → word < data_of m 0 + 2 ^ 10 → m.flow < 2 ^ 20 → Spells (take 6 bs) m
+spells-six bs word m long type_is length_is is from until fits = record {
+  x = slice_index_or bs 2 0;
+  y = slice_index_or bs 3 0;
+  z = slice_index_or bs 4 0;
+  w = slice_index_or bs 5 0;
+  reserved = word - data_of m 0;
+  spelled = six bs 18 4 long type_is length_is;
+  bits = omega (arith, is, from);
+  below = omega (arith, until);
+  flow_fits = fits;
+}

@@ -1,0 +1,12 @@
+//! Captures: what stands in a pcap file, and a reader of plain ones.
+//!
+//! A plain capture is little-endian, with fractions of a second in microseconds, and holds raw IP
+//! packets. `plain_head` tells its file header, and `plain_record` reads the records behind it one by
+//! one, as slices of the file's bytes. Nothing here allocates, copies or loops.
+#![tactic(auto)]
+
+mod plain;
+mod record;
+
+pub use plain::{plain_head, plain_record};
+pub use record::{Form, Record};

@@ -1,0 +1,102 @@
+ghost use Rattle.std.specs.Prelude.{◌≡◌, ◌≤◌, ◌↔◌, length, IsTrue};
+ghost use Rattle.am_pcap.specs.Packets.{reading_of};
+
+/// How the numbers of a capture are written.
+#[derive(Clone, Copy, Debug, PartialEq, Eq)]
+pub struct Form {
+    /// Whether the highest byte of a number stands first, else the lowest does.
+    pub big: bool,
+    /// Whether the fraction of a second is in nanoseconds, else it is in microseconds.
+    pub nano: bool,
+}
+
+/// A record of a capture: a packet that was captured, whole or its first bytes alone.
+#[derive(Clone, Copy, Debug)]
+pub struct Record<'a> {
+    /// The record's place in its capture, from 1.
+    pub number: u64,
+    /// When the packet was seen: whole seconds from the capture's epoch.
+    pub seconds: u32,
+    /// The rest of that time, in the unit that the capture's form says; any number is allowed.
+    pub fraction: u32,
+    /// How many bytes the packet had on the wire.
+    pub original: u32,
+    /// The bytes that were captured, from the packet's first, as they stand in the file.
+    pub bytes: &'a [u8],
+}
+
+impl Record<'_> {
+    ghost use Rattle.am_pcap.specs.Shown.{packet_shown};
+
+    /// When the packet was seen, in nanoseconds from the capture's epoch. A fraction of a second or
+    /// more is added as it stands.
+    pub fn reading(&self, form: Form) -> u64
+        ensures { result ≡ reading_of form.nano (packet_shown self.now) }
+    {
+        let unit = if form.nano { 1 } else { 1000 };
+        u64::from(self.seconds) * 1_000_000_000 + u64::from(self.fraction) * unit
+    }
+
+    /// Whether all bytes of the packet were captured.
+    pub fn whole(&self) -> bool
+        ensures { IsTrue result ↔ (self.now.original ≤ length self.now.bytes.now) }
+    {
+        self.original as usize <= self.bytes.len()
+    }
+}
+
+#[cfg(test)]
+mod tests {
+    use super::*;
+
+    const MICRO: Form = Form {
+        big: false,
+        nano: false,
+    };
+
+    const NANO: Form = Form {
+        big: false,
+        nano: true,
+    };
+
+    // A record of these numbers and bytes.
+    fn record(seconds: u32, fraction: u32, original: u32, bytes: &[u8]) -> Record<'_> {
+        Record {
+            number: 1,
+            seconds,
+            fraction,
+            original,
+            bytes,
+        }
+    }
+
+    // A fraction of more than a second is added as it stands, in either unit.
+    #[test]
+    fn reads_times(rt: HostRuntime) {
+        assert_eq!(rt; record(15, 1_000_001, 0, b"").reading(NANO), 15_001_000_001);
+        assert_eq!(rt;
+            record(15, 1_000_001, 0, b"").reading(MICRO),
+            16_000_001_000
+        );
+        assert_eq!(rt;
+            record(15, 1_000_000_001, 0, b"").reading(Form {
+                big: true,
+                nano: true
+            }),
+            16_000_000_001
+        );
+        assert_eq!(rt; record(1, 500, 0, b"").reading(MICRO), 1_000_500_000);
+        assert_eq!(rt;
+            record(u32::MAX, u32::MAX, 0, b"").reading(MICRO),
+            4_294_971_589_967_295_000
+        );
+    }
+
+    #[test]
+    fn tells_whole_packets(rt: HostRuntime) {
+        assert!(rt; record(0, 0, 4, b"abcd").whole());
+        assert!(rt; record(0, 0, 3, b"abcd").whole());
+        assert!(rt; !record(0, 0, 5, b"abcd").whole());
+        assert!(rt; record(0, 0, 0, b"").whole());
+    }
+}

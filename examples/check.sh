@@ -1,0 +1,196 @@
+#!/usr/bin/env bash
+# Holds the program against the examples: what it prints, its line on standard error and its status.
+# A line for each check that failed, then 'examples: N checks, M failed'. Status 0 only where none failed.
+set -u
+
+here=$(dirname -- "$(readlink -f -- "${BASH_SOURCE[0]}")")
+top=$(dirname -- "$here")
+altmark=$top/altmark
+scratch=$(mktemp -d) || exit 1
+trap 'rm -rf -- "$scratch"' EXIT
+
+checks=0
+failed=0
+
+# tally NAME TRUTH: counts a check, and names one that failed
+tally() {
+    checks=$((checks + 1))
+    if [[ $2 != yes ]]; then
+        failed=$((failed + 1))
+        printf 'failed: %s%s\n' "$1" "${3:+: $3}"
+    fi
+}
+
+# expect NAME STATUS OUTPUT LINE WORD..: runs the program with these words in the present folder. OUTPUT and LINE are all
+# that it writes to its two streams, each without the last line feed.
+expect() {
+    local name=$1 status=$2 output=$3 line=$4 got
+    shift 4
+    "$altmark" "$@" </dev/null >"$scratch/stdout" 2>"$scratch/stderr"
+    got=$?
+    if [[ -n $output ]]; then printf '%s\n' "$output"; fi >"$scratch/stdout.wanted"
+    if [[ -n $line ]]; then printf '%s\n' "$line"; fi >"$scratch/stderr.wanted"
+    if [[ $got != "$status" ]]; then
+        tally "$name" no "status $got for $status"
+    elif ! cmp -s "$scratch/stdout" "$scratch/stdout.wanted"; then
+        tally "$name" no "standard output '$(head -c 200 "$scratch/stdout" | tr '\n' '|')'"
+    elif ! cmp -s "$scratch/stderr" "$scratch/stderr.wanted"; then
+        tally "$name" no "standard error '$(head -c 200 "$scratch/stderr" | tr '\n' '|')'"
+    else
+        tally "$name" yes
+    fi
+}
+
+# refuses NAME WORD..: the words are no command
+refuses() {
+    local name=$1
+    shift
+    expect "$name" 2 '' 'altmark: usage' "$@"
+}
+
+head_line=block,in,out,lost
+two=("$here/two/u.pcap" "$here/two/v.pcap")
+table=$head_line$'\n0,2,2,0\n1,3,2,1\n2,1,1,0'
+
+# The program is built first, so that no check sees what the build says.
+cd -- "$top" || exit 1
+"$altmark" </dev/null >"$scratch/stdout" 2>"$scratch/stderr"
+got=$?
+if [[ $got != 2 ]]; then
+    cat -- "$scratch/stderr"
+    echo "examples: the program can't be run: status $got for 2"
+    exit 1
+fi
+
+# The files are those that the script beside them writes.
+python3 "$here/make.py" "$scratch/made"
+(cd -- "$scratch/made" && find . -type f | LC_ALL=C sort) >"$scratch/made.list"
+(cd -- "$here" && find ./two ./bad -type f ! -name README.md | LC_ALL=C sort) >"$scratch/kept.list"
+if cmp -s "$scratch/made.list" "$scratch/kept.list"; then tally 'names of the example files' yes; else tally 'names of the example files' no; fi
+while IFS= read -r name; do
+    if cmp -s -- "$scratch/made/$name" "$here/$name"; then tally "bytes of $name" yes; else tally "bytes of $name" no; fi
+done <"$scratch/made.list"
+
+# The run of the walk in two/README.md, and its neighbours.
+expect 'two captures' 0 "$table" '' link 10000000000 0 74565 examples/two/u.pcap examples/two/v.pcap
+cd -- "$here/two" || exit 1
+expect 'the same capture twice' 0 $head_line$'\n0,2,2,0\n1,3,3,0\n2,1,1,0' '' link 10000000000 0 74565 u.pcap u.pcap
+expect 'captures exchanged' 0 $head_line$'\n0,2,2,0\n1,2,3,-1\n2,1,1,0' '' link 10000000000 0 74565 v.pcap u.pcap
+expect 'a flow without packets' 0 "$head_line" '' link 10000000000 0 1048575 u.pcap v.pcap
+expect 'the longest block' 0 $head_line$'\n0,3,3,0' '' link 1099511627776 0 74565 u.pcap v.pcap
+head -c 24 u.pcap >"$scratch/head.pcap"
+expect 'captures without records' 0 "$head_line" '' link 10000000000 0 74565 "$scratch/head.pcap" "$scratch/head.pcap"
+expect 'nothing left' 0 $head_line$'\n0,2,0,2\n1,3,0,3\n2,1,0,1' '' link 10000000000 0 74565 u.pcap "$scratch/head.pcap"
+
+# Words that are no command.
+refuses 'no words'
+refuses 'an unknown command' lose 10000000000 0 74565 u.pcap v.pcap
+refuses 'a command in capitals' LINK 10000000000 0 74565 u.pcap v.pcap
+refuses 'an empty word' ''
+refuses '--help' --help
+refuses '--version' --version
+refuses 'one word too few' link 10000000000 0 74565 u.pcap
+refuses 'one word too many' link 10000000000 0 74565 u.pcap v.pcap v.pcap
+for block in 9 1 0 01 010 +10 -10 10_0 ' 10' '10 ' 1e10 0x10 '' 1099511627778 1099511627777 18446744073709551618 340282366920938463463374607431768211458; do
+    refuses "block '$block'" link "$block" 0 74565 u.pcap v.pcap
+done
+for delay in 01 00 +1 -1 '' 1.0 1099511627777 340282366920938463463374607431768211456; do
+    refuses "delay '$delay'" link 10000000000 "$delay" 74565 u.pcap v.pcap
+done
+for flow in 1048576 074565 0x12345 -1 '' 4294967297 340282366920938463463374607431768211456; do
+    refuses "flow '$flow'" link 10000000000 0 "$flow" u.pcap v.pcap
+done
+long=$(printf 'a%.0s' {1..255})
+refuses 'an empty name of UP' link 10000000000 0 74565 '' v.pcap
+refuses 'an empty name of DOWN' link 10000000000 0 74565 u.pcap ''
+refuses 'a name of 256 bytes' link 10000000000 0 74565 "a$long" v.pcap
+refuses 'a name with a line feed' link 10000000000 0 74565 $'u\n.pcap' v.pcap
+refuses 'a name with U+001F' link 10000000000 0 74565 u.pcap $'v\x1f.pcap'
+refuses 'a name with U+007F' link 10000000000 0 74565 u.pcap $'v\x7f.pcap'
+expect 'a word that is no text' 2 '' '' link 10000000000 0 74565 $'u\xff.pcap' v.pcap
+expect 'a name of 255 bytes' 4 '' "altmark: $long: missing" link 10000000000 0 74565 "$long" v.pcap
+expect 'the largest numbers' 0 "$head_line" '' link 1099511627776 1099511627776 1048575 u.pcap v.pcap
+
+# Files that are refused, in each place. DOWN is judged only where UP was accepted.
+cd -- "$here/bad" || exit 1
+good=../two/u.pcap
+for file in *.pcap; do
+    line=$(<"${file%.pcap}.line")
+    expect "bad/$file as UP" 3 '' "$line" link 10000000000 0 74565 "$file" "$good"
+    expect "bad/$file as DOWN" 3 '' "$line" link 10000000000 0 74565 "$good" "$file"
+    expect "bad/$file before a DOWN that is missing" 3 '' "$line" link 10000000000 0 74565 "$file" missing.pcap
+done
+expect 'UP is missing' 4 '' 'altmark: missing.pcap: missing' link 10000000000 0 74565 missing.pcap "$good"
+expect 'UP is missing before a bad DOWN' 4 '' 'altmark: missing.pcap: missing' link 10000000000 0 74565 missing.pcap empty.pcap
+expect 'DOWN is missing' 4 '' 'altmark: missing.pcap: missing' link 10000000000 0 74565 "$good" missing.pcap
+expect 'UP in a folder that is missing' 4 '' 'altmark: none/u.pcap: missing' link 10000000000 0 74565 none/u.pcap "$good"
+expect 'a folder as UP' 5 '' 'altmark: ../two: read fault' link 10000000000 0 74565 ../two "$good"
+expect 'a folder as DOWN' 5 '' 'altmark: ../two: read fault' link 10000000000 0 74565 "$good" ../two
+expect 'a file as a folder' 5 '' 'altmark: empty.pcap/u: read fault' link 10000000000 0 74565 empty.pcap/u "$good"
+
+# Limits: 262144 bytes of a record and 16777216 of a file. These files are made here, since they aren't small.
+cd -- "$scratch" || exit 1
+python3 - "${two[0]}" <<'END'
+import struct, sys
+u = open(sys.argv[1], "rb").read()
+head, one, packet = u[:24], u[24:88], u[40:88]
+
+def padded(length):
+    return struct.pack("<IIII", 2, 0, length, length) + packet + bytes(length - len(packet))
+
+def write(name, *parts):
+    open(name, "wb").write(b"".join(parts))
+
+write("record-of-most.pcap", head, padded(262144), one)
+write("record-of-more.pcap", head, padded(262145), one)
+count = (16777216 - len(head)) // len(one) - 1
+rest = 16777216 - len(head) - count * len(one) - 16
+write("file-of-most.pcap", head, one * count, padded(rest))
+write("file-of-more.pcap", head, one * count, padded(rest + 1))
+write("zeros-of-most.pcap", bytes(16777216))
+write("zeros-of-more.pcap", bytes(16777217))
+open("count", "w").write(str(count + 1))
+END
+count=$(<count)
+expect 'a record of 262144 bytes' 0 $head_line$'\n0,2,2,0' '' link 10000000000 0 74565 record-of-most.pcap record-of-most.pcap
+expect 'a record of 262145 bytes' 3 '' 'altmark: record-of-more.pcap: capture is not plain: record 1' link 10000000000 0 74565 record-of-more.pcap missing.pcap
+expect 'a file of 16777216 bytes' 0 $head_line$'\n'"0,$count,$count,0" '' link 10000000000 0 74565 file-of-most.pcap file-of-most.pcap
+expect 'a file of 16777217 bytes' 3 '' 'altmark: file-of-more.pcap: too long' link 10000000000 0 74565 file-of-more.pcap missing.pcap
+expect 'a file of 16777217 bytes as DOWN' 3 '' 'altmark: file-of-more.pcap: too long' link 10000000000 0 74565 "${two[0]}" file-of-more.pcap
+expect '16777216 zeros' 3 '' 'altmark: zeros-of-most.pcap: capture is not plain: record 0' link 10000000000 0 74565 zeros-of-most.pcap missing.pcap
+expect '16777217 zeros' 3 '' 'altmark: zeros-of-more.pcap: too long' link 10000000000 0 74565 zeros-of-more.pcap missing.pcap
+
+# Streams that can't be written.
+if [[ -c /dev/full && -w /dev/full ]]; then
+    "$altmark" link 10000000000 0 74565 "${two[@]}" </dev/null >/dev/full 2>stderr
+    got=$?
+    if [[ $got == 6 && $(<stderr) == 'altmark: write fault' ]]; then tally 'output to a full device' yes; else tally 'output to a full device' no "status $got"; fi
+    "$altmark" </dev/null >stdout 2>/dev/full
+    got=$?
+    if [[ $got == 2 && ! -s stdout ]]; then tally 'no words, with a full standard error' yes; else tally 'no words, with a full standard error' no "status $got"; fi
+    "$altmark" link 10000000000 0 74565 missing.pcap missing.pcap </dev/null >stdout 2>/dev/full
+    got=$?
+    if [[ $got == 4 && ! -s stdout ]]; then tally 'a missing file, with a full standard error' yes; else tally 'a missing file, with a full standard error' no "status $got"; fi
+    "$altmark" link 10000000000 0 74565 "${two[@]}" </dev/null >/dev/full 2>/dev/full
+    got=$?
+    if [[ $got == 6 ]]; then tally 'both streams full' yes; else tally 'both streams full' no "status $got"; fi
+fi
+"$altmark" link 10000000000 0 74565 "${two[@]}" </dev/null >stdout 2>&-
+got=$?
+if [[ $got == 0 && $(<stdout) == "$table" ]]; then tally 'standard error closed' yes; else tally 'standard error closed' no "status $got"; fi
+"$altmark" link 10000000000 0 74565 missing.pcap "${two[1]}" </dev/null >stdout 2>&-
+got=$?
+if [[ $got == 4 && ! -s stdout ]]; then tally 'a missing file, with standard error closed' yes; else tally 'a missing file, with standard error closed' no "status $got"; fi
+
+# Each of the two captures cut at each of its lengths, as UP and as DOWN.
+exec 4>&1
+cut_counts=$(python3 "$here/cuts.py" "$altmark" "${two[@]}" 3>&1 1>&4)
+if [[ $cut_counts =~ ^([0-9]+)\ ([0-9]+)$ ]]; then
+    checks=$((checks + BASH_REMATCH[1]))
+    failed=$((failed + BASH_REMATCH[2]))
+else
+    tally 'captures cut at each length' no 'examples/cuts.py gave no counts'
+fi
+
+echo "examples: $checks checks, $failed failed"
+[[ $failed == 0 && $checks -gt 0 ]]

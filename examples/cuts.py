@@ -1,0 +1,68 @@
+#!/usr/bin/env python3
+"""Runs the program over each capture of two, cut at each of its lengths, in both places beside the other, whole.
+
+    cuts.py ALTMARK U V
+
+A line on standard output for each of the first runs that went wrong; the counts of runs and of wrong ones go to
+descriptor 3.
+"""
+import os
+import subprocess
+import sys
+import tempfile
+from concurrent.futures import ThreadPoolExecutor
+
+HEAD, RECORD = 24, 64
+SHOWN = 10
+
+
+def wanted(length):
+    """The status, and the number of the record that is refused if there is one: 0 for the file header."""
+    if length < HEAD:
+        return 3, 0
+    if (length - HEAD) % RECORD:
+        return 3, (length - HEAD) // RECORD + 1
+    return 0, None
+
+
+def run(altmark, names, folder):
+    words = [altmark, "link", "10000000000", "0", "74565", *names]
+    return subprocess.run(words, cwd=folder, stdin=subprocess.DEVNULL, capture_output=True)
+
+
+def main(altmark, u, v):
+    whole = {"u.pcap": open(u, "rb").read(), "v.pcap": open(v, "rb").read()}
+    jobs = []
+    with tempfile.TemporaryDirectory() as folder:
+        for name, bytes_ in whole.items():
+            with open(os.path.join(folder, name), "wb") as out:
+                out.write(bytes_)
+            for length in range(len(bytes_) + 1):
+                cut = f"cut-{length}-{name}"
+                with open(os.path.join(folder, cut), "wb") as out:
+                    out.write(bytes_[:length])
+                other = "v.pcap" if name == "u.pcap" else "u.pcap"
+                jobs.append((cut, length, (cut, other)))
+                jobs.append((cut, length, (other, cut)))
+
+        def judge(job):
+            cut, length, names = job
+            done = run(altmark, names, folder)
+            status, number = wanted(length)
+            line = f"altmark: {cut}: capture is not plain: record {number}\n".encode() if status else b""
+            right = done.returncode == status and done.stderr == line
+            right = right and (done.stdout == b"" if status else done.stdout.startswith(b"block,in,out,lost\n"))
+            return None if right else f"failed: link {' '.join(names)}: status {done.returncode}, {done.stderr!r}"
+
+        with ThreadPoolExecutor(os.cpu_count() or 1) as pool:
+            wrong = [text for text in pool.map(judge, jobs) if text]
+    for text in wrong[:SHOWN]:
+        print(text)
+    if len(wrong) > SHOWN:
+        print(f"failed: {len(wrong) - SHOWN} more of such cuts")
+    sys.stdout.flush()
+    os.write(3, f"{len(jobs)} {len(wrong)}\n".encode())
+
+
+if __name__ == "__main__":
+    main(*sys.argv[1:])
