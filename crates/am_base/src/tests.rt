@@ -124,25 +124,25 @@ fn bytes_of(alloc: Global, count: usize) -> Result<Vec<u8>, AllocError> {
     Ok(bytes)
 }
 
-// Each read asks for 65,536 bytes, so this many reads are enough: that the one behind them would fail changes nothing.
+// Each read asks for 65,536 bytes, so a file takes so many reads: that the one behind them would fail changes nothing.
 #[test]
 fn whole_files_of_any_size_up_to_the_limit(rt: HostRuntime) -> Result<(), Fail> {
     let alloc = rt.alloc();
-    for (count, limit, reads, fits) in [
-        (0, 0, 1, true),
-        (1, 0, 1, false),
-        (3, 3, 2, true),
-        (3, 2, 1, false),
-        (65_536, 65_536, 2, true),
-        (65_536, 65_535, 1, false),
-        (65_537, 65_537, 3, true),
-        (65_537, 65_536, 2, false),
-        (131_072, 131_072, 3, true),
-        (140_000, 4_294_967_295, 4, true),
+    for (count, limit, bad_read, fits) in [
+        (0, 0, 2, true),
+        (1, 0, 2, false),
+        (3, 3, 3, true),
+        (3, 2, 2, false),
+        (65_536, 65_536, 3, true),
+        (65_536, 65_535, 2, false),
+        (65_537, 65_537, 4, true),
+        (65_537, 65_536, 3, false),
+        (131_072, 131_072, 4, true),
+        (140_000, 4_294_967_295, 5, true),
     ] {
         let bytes = bytes_of(alloc, count)?;
         let files = [("other", b"x".as_slice()), ("f", &bytes)];
-        let mut shelf = shelf_of(alloc, &files, &[], &[reads + 1])?;
+        let mut shelf = shelf_of(alloc, &files, &[], &[bad_read])?;
         match read_file(alloc, &mut shelf, "f", limit) {
             Ok(whole) => assert!(rt;
                 fits && whole.as_slice() == bytes.as_slice(),
