@@ -1,0 +1,4 @@
+pub mod Fixed
+pub mod Chains
+pub mod Endings
+pub mod Marks
