@@ -1,3 +1,4 @@
 pub mod Packets
 pub mod Plain
 pub mod Shown
+pub mod Frames

@@ -5,8 +5,10 @@
 //! one, as slices of the file's bytes. Nothing here allocates, copies or loops.
 #![tactic(auto)]
 
+mod frame;
 mod plain;
 mod record;
 
+pub use frame::{Frame, LinkKind, packet_of};
 pub use plain::{plain_head, plain_record};
 pub use record::{Form, Record};
