@@ -3,3 +3,4 @@ pub mod TableLemmas
 pub mod CaptureLemmas
 pub mod RunLemmas
 pub mod LinkLemmas
+pub mod ShowLemmas

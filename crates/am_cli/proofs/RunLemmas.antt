@@ -1,16 +1,17 @@
 -- What the words say, what a command prints and what is refused are one.
 use Rattle.std.proofs.Common.{◌≡◌, ℕ, List, length, Option, Some, None, ap, sym, ◌∙◌, subst, inl, inr, arith}
-use Rattle.std.specs.Prelude.{Result, Ok, Err, IfErr}
+use Rattle.std.specs.Prelude.{◌⊎◌, Result, Ok, Err, IfErr}
 use Rattle.am_base.specs.Shelves.{File, Told, OnTold, file_named}
 use Rattle.am_cli.specs.Commands.{Link, Command, Says, SaysLink, IsNoCommand}
-use Rattle.am_cli.specs.Commands.Command.{Linking}
+use Rattle.am_cli.specs.Commands.Command.{Linking, Showing}
 use Rattle.am_cli.specs.Link.{IsTaken, IsRefused, LinkRefusal, IsLinkProduct}
 use Rattle.am_cli.specs.Marked.{Marked, IsNotPlain}
-use Rattle.am_cli.specs.Runs.{IsProduct, IsFirstRefusal, IsStopOf, IsBorneOut, IsToldAs, Leaves, LeavesOf, Prints, Refuses}
+use Rattle.am_cli.specs.Runs.{IsProduct, IsFirstRefusal, IsStopOf, IsBorneOut, IsToldAs, Leaves, LeavesOf, Prints, Refuses, Completes}
 use Rattle.am_cli.specs.Stops.{Refusal, Stop, refusal_status, stop_status}
 use Rattle.am_cli.specs.Stops.Refusal.{Missing, TooLong, NotPlain}
 use Rattle.am_cli.specs.Stops.Stop.{NoCommand, Refused, ReadFault, WriteFault, NoMemory}
 use Rattle.am_cli.proofs.CaptureLemmas.{not_plain_once, not_both}
+use Rattle.am_cli.proofs.ShowLemmas.{show_refused_once, show_not_refused, show_named_leaves, show_none_leaves}
 
 -- a file has one list of bytes
 one_file : (files : List File) (name a b : List ℕ) → file_named files name ≡ Some a → file_named files name ≡ Some b → a ≡ b
@@ -35,6 +36,11 @@ says_one words l k s t =
 
 pub says_once : (words : List (List ℕ)) (c d : Command) → Says words c → Says words d → c ≡ d
 says_once words (Linking l) (Linking k) s t = ap Linking (says_one words l k s t)
+says_once words (Linking l) (Showing k) s t = let same = sym s.spelled ∙ t.spelled in absurd (cc same)
+says_once words (Showing l) (Linking k) s t = let same = sym s.spelled ∙ t.spelled in absurd (cc same)
+says_once words (Showing l) (Showing k) s t =
+    let same : l.file ≡ k.file = cc (sym s.spelled ∙ t.spelled) in
+    ap (λ f. Showing (record { file = f })) same
 
 -- a file is refused for one reason
 refused_once : (files : List File) (name : List ℕ) (r s : Refusal) → IsRefused files name r → IsRefused files name s → r ≡ s
@@ -89,9 +95,11 @@ link_not_refused files l text r p q =
 
 pub first_once : (files : List File) (c : Command) (r s : Refusal) → IsFirstRefusal files c r → IsFirstRefusal files c s → r ≡ s
 first_once files (Linking l) r s = link_refused_once files l r s
+first_once files (Showing s) r q = show_refused_once files s r q
 
 pub product_not_refused : (files : List File) (c : Command) (text : List ℕ) (r : Refusal) → IsProduct files c text → IsFirstRefusal files c r → ⊥
 product_not_refused files (Linking l) text r = link_not_refused files l text r
+product_not_refused files (Showing s) text r = show_not_refused files s text r
 
 -- a fact of the value of an `Err`
 pub err_more : {T E : Type 0} {P Q : E → Type 0} (r : Result T E) → ((e : E) → P e → Q e) → IfErr r P → IfErr r Q
@@ -119,9 +127,11 @@ told_borne_out words told NoMemory s e h = subst (λ x. IsBorneOut words told x)
 -- what a command leaves at a stop that names a file it leaves where memory runs out
 named_leaves : (told : Option Told) (c : Command) (r : Refusal) (printed : List ℕ) → Leaves told c (Refused r) printed → Leaves told c NoMemory printed
 named_leaves told (Linking l) r printed h = h
+named_leaves told (Showing s) r printed h = show_named_leaves told s r printed h
 
 fault_leaves : (told : Option Told) (c : Command) (name printed : List ℕ) → Leaves told c (ReadFault name) printed → Leaves told c NoMemory printed
 fault_leaves told (Linking l) name printed h = h
+fault_leaves told (Showing s) name printed h = show_none_leaves told s printed h
 
 -- and so of what is told of it
 pub told_leaves : (words : List (List ℕ)) (told : Option Told) (stop s : Stop) (printed : List ℕ) → IsToldAs stop s → LeavesOf words told stop printed → LeavesOf words told s printed
@@ -172,3 +182,54 @@ printed_refuses words None old new h = tt
 printed_refuses words (Some t) old new h = λ c r says first.
     let same : h.0 ≡ c = says_once words h.0 c h.1 says in
     absurd (product_not_refused t.files c h.2.0 r (subst (λ x. IsProduct t.files x h.2.0) same h.2.1) first)
+
+-- words that are neither two nor six are no command
+pub no_command_by_length : (words : List (List ℕ)) → (length words ≡ 2 → ⊥) → (length words ≡ 6 → ⊥) → IsNoCommand words
+no_command_by_length words two six (Linking l) says = six (ap length says.spelled)
+no_command_by_length words two six (Showing s) says = two (ap length says.spelled)
+
+-- where no file is refused and nothing failed, a stop is for want of memory
+completes_stop :
+    {A B : Type 0} (words : List (List ℕ)) (t : Told) (s : Stop) (status : ℕ)
+    → stop_status s ≡ status
+    → IsBorneOut words (Some t) s
+    → (status ≡ 5 → A)
+    → (status ≡ 6 → B)
+    → Completes words t.files (A ⊎ B) status
+completes_stop words t NoCommand status e h five six = λ c says none sound. absurd (h c says)
+completes_stop words t (Refused r) status e h five six = λ c says none sound.
+    let same : h.0 ≡ c = says_once words h.0 c h.1 says in
+    absurd (none r (subst (λ x. IsFirstRefusal t.files x r) same h.2.1))
+completes_stop words t (ReadFault name) status e h five six = λ c says none sound. absurd (sound (inl (five (sym e))))
+completes_stop words t WriteFault status e h five six = λ c says none sound. absurd (sound (inr (six (sym e))))
+completes_stop words t NoMemory status e h five six = λ c says none sound. inr (sym e)
+
+pub stopped_completes :
+    {A B : Type 0} (words : List (List ℕ)) (told : Option Told) (s : Stop) (status : ℕ)
+    → stop_status s ≡ status
+    → IsBorneOut words told s
+    → (status ≡ 5 → A)
+    → (status ≡ 6 → B)
+    → OnTold told (λ t. Completes words t.files (A ⊎ B) status)
+stopped_completes words None s status e h five six = tt
+stopped_completes words (Some t) s status e h five six = completes_stop words t s status e h five six
+
+-- a stop is told with its status, or as want of memory
+told_status : (stop s : Stop) → IsToldAs stop s → (stop_status stop ≡ stop_status s) ⊎ (stop_status s ≡ 7)
+told_status NoCommand s e = inl (sym (ap stop_status e))
+told_status (Refused r) s e = elim e [ inl same ↦ inl (sym (ap stop_status same)) | inr none ↦ inr (ap stop_status none) ]
+told_status (ReadFault name) s e = elim e [ inl same ↦ inl (sym (ap stop_status same)) | inr none ↦ inr (ap stop_status none) ]
+told_status WriteFault s e = inl (sym (ap stop_status e))
+told_status NoMemory s e = inl (sym (ap stop_status e))
+
+-- a cause of the stop is one of what is told, where that isn't want of memory
+pub cause_told :
+    {A : Type 0} (stop s : Stop) (status n : ℕ)
+    → IsToldAs stop s
+    → stop_status s ≡ status
+    → (n ≡ 7 → ⊥)
+    → (stop_status stop ≡ n → A)
+    → status ≡ n
+    → A
+cause_told stop s status n told is other cause e =
+    elim (told_status stop s told) [ inl same ↦ cause (same ∙ is ∙ e) | inr none ↦ absurd (other (sym e ∙ sym is ∙ none)) ]

@@ -11,9 +11,14 @@ pub record Link : Type 0 where
   pub up : List ℕ
   pub down : List ℕ
 
+-- `show`: the capture whose records are shown
+pub record Show : Type 0 where
+  pub file : List ℕ
+
 -- a command of the program
 pub data Command : Type 0 where
   Linking : Link → Command
+  Showing : Show → Command
 
 -- a word writes a number
 pub record Writes (word : List ℕ) (number : ℕ) : Type 0 where
@@ -52,9 +57,15 @@ pub record SaysLink (words : List (List ℕ)) (l : Link) : Type 0 where
   pub spelled : words ≡ codes "link" ∷ block_word ∷ shift_word ∷ flow_word ∷ l.up ∷ l.down ∷ []
   pub numbers : SaysNumbers block_word shift_word flow_word l
 
+-- words are `show FILE`, and say this
+pub record SaysShow (words : List (List ℕ)) (s : Show) : Type 0 where
+  pub spelled : words ≡ codes "show" ∷ s.file ∷ []
+  pub file_name : IsFileName s.file
+
 -- words are this command
 abbrev pub Says : List (List ℕ) → Command → Type 0
 Says words (Linking l) = SaysLink words l
+Says words (Showing s) = SaysShow words s
 
 -- words are no command
 abbrev pub IsNoCommand : List (List ℕ) → Type 0
@@ -63,3 +74,4 @@ IsNoCommand words = (c : Command) → Says words c → ⊥
 -- the files that a command names, in the order in which it reads them
 abbrev pub file_names : Command → List (List ℕ)
 file_names (Linking l) = l.up ∷ l.down ∷ []
+file_names (Showing s) = s.file ∷ []

@@ -3,6 +3,8 @@ pub mod Marked
 pub mod Tables
 pub mod Stops
 pub mod Link
+pub mod Lines
+pub mod Show
 pub mod Runs
 pub mod Shown
 pub mod Tallies

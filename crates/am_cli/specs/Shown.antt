@@ -1,10 +1,11 @@
 -- What the program's own values say: a command, a stop.
 use Rattle.am_cli.specs.Commands as said
-use Rattle.am_cli.specs.Commands.{Link}
+use Rattle.am_cli.specs.Commands.{Link, Show}
 use Rattle.am_cli.specs.Stops as told
 use Rattle.am_cli.specs.declared.words.LinkWords.{LinkWords}
+use Rattle.am_cli.specs.declared.words.ShowWords.{ShowWords}
 use Rattle.am_cli.specs.declared.words.Command.{Command}
-use Rattle.am_cli.specs.declared.words.Command.TheVariants.{Link as LinkCommand}
+use Rattle.am_cli.specs.declared.words.Command.TheVariants.{Link as LinkCommand, Show as ShowCommand}
 use Rattle.am_cli.specs.declared.stop.Refusal.{Refusal}
 use Rattle.am_cli.specs.declared.stop.Refusal.TheVariants.{Missing, TooLong, NotPlain}
 use Rattle.am_cli.specs.declared.stop.Stop.{Stop}
@@ -20,9 +21,14 @@ link_shown w = record {
   down = w.down.now;
 }
 
+-- what a `ShowWords` says
+abbrev pub show_shown : ShowWords → Show
+show_shown w = record { file = w.file.now }
+
 -- what a `Command` says
 abbrev pub command_shown : Command → said.Command
 command_shown (LinkCommand w) = said.Command.Linking (link_shown w)
+command_shown (ShowCommand w) = said.Command.Showing (show_shown w)
 
 -- what a `Refusal` says
 abbrev pub refusal_shown : Refusal → told.Refusal

@@ -7,6 +7,7 @@
 mod capture;
 mod link;
 mod run;
+mod show;
 mod stop;
 mod table;
 mod words;

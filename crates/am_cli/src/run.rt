@@ -10,6 +10,7 @@ ghost use Rattle.am_cli.specs.Runs.{IsProduct, IsStopOf, Leaves, IsBorneOut, Lea
 ghost use Rattle.am_cli.specs.Shown.{command_shown, stop_shown};
 
 use crate::link::link;
+use crate::show::show;
 use crate::stop::Stop;
 use crate::words::{Command, command_of};
 use am_base::{Shelf, Sink, put};
@@ -94,6 +95,7 @@ fn perform_command<'a, S: Shelf, O: Sink>(
 {
     match command {
         Command::Link(asked) => link(alloc, asked, shelf, out),
+        Command::Show(asked) => show(alloc, asked, shelf, out),
     }
 }
 

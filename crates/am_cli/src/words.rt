@@ -1,5 +1,5 @@
 //! The words of the command line, read by position.
-ghost use Rattle.std.specs.Prelude.{◌≡◌, ◌≤◌, ◌↔◌, ℕ, map, string_bytes, IfSome, IfNone, IsTrue};
+ghost use Rattle.std.specs.Prelude.{◌≡◌, ◌≤◌, ◌↔◌, ◌∷◌, [], ℕ, map, string_bytes, IfSome, IfNone, IsTrue};
 ghost use Rattle.am_cli.specs.Commands.{Link, Writes, IsPrinted, IsFileName, SaysNumbers, Says, IsNoCommand};
 ghost use Rattle.am_cli.specs.Shown.{link_shown, command_shown};
 
@@ -28,11 +28,20 @@ pub struct LinkWords<'a> {
     pub down: &'a str,
 }
 
+/// What `show` was asked.
+#[derive(Clone, Copy)]
+pub struct ShowWords<'a> {
+    /// The name of the capture.
+    pub file: &'a str,
+}
+
 /// A command, with what it was asked.
 #[derive(Clone, Copy)]
 pub enum Command<'a> {
     /// Loss between two points.
     Link(LinkWords<'a>),
+    /// What each record of a capture says.
+    Show(ShowWords<'a>),
 }
 
 /// The command that the words are; none where they are no command.
@@ -40,22 +49,53 @@ pub fn command_of(words: &[String]) -> Option<Command<'_>>
     ensures only { IfSome result (λ c. Says (map string_bytes words.now) (command_shown c)) }
     ensures none { IfNone result (IsNoCommand (map string_bytes words.now)) }
 {
-    let [name, block, shift, flow, up, down] = words else {
-        return None;
-    };
-    if name.as_str() != "link" {
+    match words {
+        [name, block, shift, flow, up, down] => link_command(
+            name.as_str(),
+            block.as_str(),
+            shift.as_str(),
+            flow.as_str(),
+            up.as_str(),
+            down.as_str(),
+        ),
+        [name, file] => show_command(name.as_str(), file.as_str()),
+        _ => None,
+    }
+}
+
+// `link BLOCK DMIN FLOW UP DOWN`.
+fn link_command<'a>(
+    name: &str,
+    block: &str,
+    shift: &str,
+    flow: &str,
+    up: &'a str,
+    down: &'a str,
+) -> Option<Command<'a>>
+    ensures only { IfSome result (λ c. Says (name.now ∷ block.now ∷ shift.now ∷ flow.now ∷ up.now ∷ down.now ∷ []) (command_shown c)) }
+    ensures none { IfNone result (IsNoCommand (name.now ∷ block.now ∷ shift.now ∷ flow.now ∷ up.now ∷ down.now ∷ [])) }
+{
+    if name != "link" {
         return None;
     }
-    match link_words(
-        block.as_str(),
-        shift.as_str(),
-        flow.as_str(),
-        up.as_str(),
-        down.as_str(),
-    ) {
+    match link_words(block, shift, flow, up, down) {
         Some(link) => Some(Command::Link(link)),
         None => None,
     }
+}
+
+// `show FILE`.
+fn show_command<'a>(name: &str, file: &'a str) -> Option<Command<'a>>
+    ensures only { IfSome result (λ c. Says (name.now ∷ file.now ∷ []) (command_shown c)) }
+    ensures none { IfNone result (IsNoCommand (name.now ∷ file.now ∷ [])) }
+{
+    if name != "show" {
+        return None;
+    }
+    if !is_file_name(file) {
+        return None;
+    }
+    Some(Command::Show(ShowWords { file }))
 }
 
 // What stands behind `link`.
