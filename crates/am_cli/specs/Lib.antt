@@ -8,4 +8,5 @@ pub mod Show
 pub mod Runs
 pub mod Shown
 pub mod Tallies
+pub mod Showing
 pub mod Counting

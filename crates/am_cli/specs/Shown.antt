@@ -1,4 +1,6 @@
 -- What the program's own values say: a command, a stop.
+use Rattle.am_base.specs.declared.file.FileFault.{FileFault}
+use Rattle.am_base.specs.declared.file.FileFault.TheVariants as fault
 use Rattle.am_cli.specs.Commands as said
 use Rattle.am_cli.specs.Commands.{Link, Show}
 use Rattle.am_cli.specs.Stops as told
@@ -43,3 +45,10 @@ stop_shown (Refused r) = told.Stop.Refused (refusal_shown r)
 stop_shown (ReadFault name) = told.Stop.ReadFault name.now
 stop_shown WriteFault = told.Stop.WriteFault
 stop_shown NoMemory = told.Stop.NoMemory
+
+-- the stop where a file could not be read whole
+abbrev pub stop_of_file : List ℕ → FileFault → told.Stop
+stop_of_file name fault.Missing = told.Stop.Refused (told.Refusal.Missing name)
+stop_of_file name fault.ReadFault = told.Stop.ReadFault name
+stop_of_file name fault.TooLong = told.Stop.Refused (told.Refusal.TooLong name)
+stop_of_file name fault.Memory = told.Stop.NoMemory

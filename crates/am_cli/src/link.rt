@@ -12,10 +12,10 @@ ghost use Rattle.am_cli.specs.Runs.{IsStopOf, PrintsLast};
 ghost use Rattle.am_cli.specs.Shown.{link_shown, stop_shown};
 
 use crate::capture::{CountFault, count_capture};
-use crate::stop::{Refusal, Stop};
+use crate::stop::{Refusal, Stop, file_stop};
 use crate::table::{Side, Table};
 use crate::words::LinkWords;
-use am_base::{FileFault, Shelf, Sink, put, read_file};
+use am_base::{Shelf, Sink, put, read_file};
 use am_clock::Timing;
 use std::alloc::Global;
 
@@ -101,10 +101,7 @@ fn count_file<'a, S: Shelf>(
 {
     let bytes = match read_file(alloc, shelf, name, MOST_BYTES) {
         Ok(bytes) => bytes,
-        Err(FileFault::Missing) => return Err(Stop::Refused(Refusal::Missing { name })),
-        Err(FileFault::ReadFault) => return Err(Stop::ReadFault { name }),
-        Err(FileFault::TooLong) => return Err(Stop::Refused(Refusal::TooLong { name })),
-        Err(FileFault::Memory) => return Err(Stop::NoMemory),
+        Err(fault) => return Err(file_stop(name, fault)),
     };
     match count_capture(&bytes, timing, flow, shift, side, table) {
         Ok(()) => Ok(()),

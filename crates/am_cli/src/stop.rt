@@ -2,8 +2,9 @@
 ghost use Rattle.std.specs.Prelude.{◌≡◌, IfOk, string_bytes};
 ghost use Rattle.am_cli.specs.Stops.{said_of, refusal_line, refusal_status, stop_line, stop_status};
 ghost use Rattle.am_cli.specs.Stops as told;
-ghost use Rattle.am_cli.specs.Shown.{refusal_shown, stop_shown};
+ghost use Rattle.am_cli.specs.Shown.{refusal_shown, stop_shown, stop_of_file};
 
+use am_base::FileFault;
 use std::alloc::{AllocError, Global};
 use std::fmt::Write;
 
@@ -32,6 +33,18 @@ pub enum Stop<'a> {
     WriteFault,
     /// There was not enough memory.
     NoMemory,
+}
+
+/// The stop where this file could not be read whole.
+pub fn file_stop(name: &str, fault: FileFault) -> Stop<'_>
+    ensures { stop_shown result ≡ stop_of_file name.now fault }
+{
+    match fault {
+        FileFault::Missing => Stop::Refused(Refusal::Missing { name }),
+        FileFault::ReadFault => Stop::ReadFault { name },
+        FileFault::TooLong => Stop::Refused(Refusal::TooLong { name }),
+        FileFault::Memory => Stop::NoMemory,
+    }
 }
 
 impl Refusal<'_> {
