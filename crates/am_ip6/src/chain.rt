@@ -12,6 +12,7 @@ ghost use Rattle.am_ip6.specs.Chains.{IsWalked, FitsAt, HasOptions, Stands, firs
 ghost use Rattle.am_ip6.specs.Endings.{IsOtherVersion, LacksBytes, MayBeCut, EndsAt, EndsEarly};
 ghost use Rattle.am_ip6.specs.Shown.{lent, spot_shown, ending_shown};
 
+use am_opts::check_options;
 use crate::fixed_header::{FIXED_LENGTH, VERSION, begins_with_fixed, payload};
 
 // Hop-by-Hop Options (RFC 8200, section 4.3).
@@ -67,6 +68,7 @@ pub(crate) struct Announced {
 // What the fixed header announces, or how a packet without one of version 6 ends.
 pub(crate) fn start(bytes: &[u8], whole: bool) -> Result<Announced, Ending>
     ensures fixed { IfOk result (λ s. IsFixed bytes.now × (spot_shown s ≡ first_spot bytes.now)) }
+    ensures within { IfOk result (λ s. s.at ≤ limit_of bytes.now) }
     ensures other { IfErr result (λ e. (IsFixed bytes.now → ⊥) × EndsEarly bytes.now whole (ending_shown e)) }
 {
     if !begins_with_fixed(bytes) {
@@ -202,6 +204,9 @@ fn options_fault(header: &[u8]) -> Option<usize>
     ensures bad { IfSome result (λ place. HasOptions header.now → ⊥) }
     ensures place { IfSome result (λ place. (options : List Placed) × IsLongest 0 (drop 2 header.now) options × (place ≡ length (joined options))) }
 {
-    let _ = header.len();
-    None
+    let (_, area) = header.split_at(2);
+    match check_options(area) {
+        Ok(_) => None,
+        Err(fault) => Some(fault.place),
+    }
 }
