@@ -39,14 +39,22 @@ pub record HasBadOptions (packet : List ℕ) (s : Spot) (place : ℕ) : Type 0 w
 abbrev pub MayBeCut : List ℕ → Bool → Type 0
 MayBeCut packet whole = (whole ≡ false) × (limit_of packet < claimed_length packet)
 
+-- a packet whose fixed header is there ends so at this spot, behind its headers
+abbrev pub EndsAt : List ℕ → Bool → Spot → Ended → Type 0
+EndsAt packet whole s (AtNumber next at told_at) =
+    (s ≡ record { kind = next; at = at; told_at = told_at }) × (IsWalked s → ⊥)
+EndsAt packet whole s WasCut = LacksBytes packet s × MayBeCut packet whole
+EndsAt packet whole s (IsMalformed place) =
+    (LacksBytes packet s × (MayBeCut packet whole → ⊥) × (place ≡ s.at)) ⊎ HasBadOptions packet s place
+
+-- a packet without a fixed header of version 6 ends so: another version is malformed, also where the packet was cut
+abbrev pub EndsEarly : List ℕ → Bool → Ended → Type 0
+EndsEarly packet whole (AtNumber next at told_at) = ⊥
+EndsEarly packet whole WasCut = IsShort packet × (whole ≡ false)
+EndsEarly packet whole (IsMalformed place) =
+    (IsOtherVersion packet × (place ≡ 0)) ⊎ (IsShort packet × (whole ≡ true) × (place ≡ length packet))
+
 -- the walk of a packet, of which all bytes were captured or not, ends so behind its headers
-abbrev pub EndsSo : List ℕ → Bool → List Lent → Ended → Type 0
-EndsSo packet whole hs (AtNumber next at told_at) =
-    IsFixed packet × (spot_after packet (first_spot packet) hs ≡ record { kind = next; at = at; told_at = told_at }) × (IsWalked (spot_after packet (first_spot packet) hs) → ⊥)
-EndsSo packet whole hs WasCut =
-    (IsShort packet × (whole ≡ false)) ⊎ (IsFixed packet × LacksBytes packet (spot_after packet (first_spot packet) hs) × MayBeCut packet whole)
-EndsSo packet whole hs (IsMalformed place) =
-    (IsOtherVersion packet × (place ≡ 0))
-    ⊎ (IsShort packet × (whole ≡ true) × (place ≡ length packet))
-    ⊎ (IsFixed packet × LacksBytes packet (spot_after packet (first_spot packet) hs) × (MayBeCut packet whole → ⊥) × (place ≡ (spot_after packet (first_spot packet) hs).at))
-    ⊎ (IsFixed packet × HasBadOptions packet (spot_after packet (first_spot packet) hs) place)
+pub record EndsSo (packet : List ℕ) (whole : Bool) (hs : List Lent) (ended : Ended) : Type 0 where
+  pub fixed : IsFixed packet → EndsAt packet whole (spot_after packet (first_spot packet) hs) ended
+  pub other : (IsFixed packet → ⊥) → EndsEarly packet whole ended

@@ -1,4 +1,6 @@
 pub mod Fixed
+pub mod FixedShown
 pub mod Chains
 pub mod Endings
+pub mod Shown
 pub mod Marks

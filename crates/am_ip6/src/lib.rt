@@ -1,10 +1,9 @@
-//! x
 #![tactic(auto)]
-ghost use Rattle.am_ip6.specs.Marks.{SeenInHopByHop, SeenInDestination};
-ghost use Rattle.std.specs.Prelude.{ℕ, Bool, List};
-ghost use Rattle.am_ip6.specs.Chains.{Lent, HasHeaders};
-ghost use Rattle.am_ip6.specs.Endings.{Ended, EndsSo};
-ghost use Rattle.am_ip6.specs.Marks.{Seen};
-ghost use Rattle.am_ip6.specs.Fixed.{parts_of};
 
-pub fn f() {}
+mod chain;
+mod fixed_header;
+mod headers;
+
+pub use chain::{Ending, Header};
+pub use fixed_header::Fixed;
+pub use headers::walk_ending;
