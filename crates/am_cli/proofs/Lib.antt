@@ -4,3 +4,4 @@ pub mod CaptureLemmas
 pub mod RunLemmas
 pub mod LinkLemmas
 pub mod ShowLemmas
+pub mod ShowSteps

@@ -1,0 +1,51 @@
+-- One more record shown: its line behind those before it.
+use Rattle.std.proofs.Common.{◌≡◌, ℕ, ◌+◌, ◌≤◌, Bool, List, [], ◌∷◌, ◌++◌, length, take, Option, None, Some, refl, ap, sym, ◌∙◌, subst, arith, append_assoc}
+use Rattle.std.proofs.Math.Seq.{take-append-add}
+use Rattle.std.proofs.lemmas.List.{append-nil}
+use Rattle.std.specs.Io.KnownBytes.{append_known}
+use Rattle.am_pcap.specs.Packets.{Packet, IsWhole, HoldsPackets, first_packet, behind_first}
+use Rattle.am_cli.specs.Lines.{IsLine, AreLines}
+
+-- whole records, and one more behind them
+pub HoldsPackets-more :
+    (big : Bool) (bytes : List ℕ) (ps : List Packet) (rest : List ℕ)
+    → HoldsPackets big bytes ps rest
+    → IsWhole big rest
+    → HoldsPackets big bytes (ps ++ first_packet big rest ∷ []) (behind_first big rest)
+HoldsPackets-more big bytes [] rest h w =
+    let P : List ℕ → Type 0 = λ b. IsWhole big b in
+    (subst P (sym h) w, ap (λ b. first_packet big b) (sym h), ap (λ b. behind_first big b) h)
+HoldsPackets-more big bytes (p ∷ ps) rest h w = (h.0, h.1, HoldsPackets-more big (behind_first big bytes) ps rest h.2 w)
+
+-- the lines of records, and one more behind them
+pub AreLines-more :
+    (number : ℕ) (ps : List Packet) (text : List ℕ) (last : ℕ) (p : Packet) (line : List ℕ)
+    → AreLines number ps text
+    → last ≡ number + length ps
+    → IsLine last p line
+    → AreLines number (ps ++ p ∷ []) (text ++ line)
+AreLines-more number [] text last p line h is l =
+    let same : last ≡ number = omega arith in
+    (line, [], subst (λ n. IsLine n p line) same l, refl, ap (λ t. t ++ line) h ∙ sym (append-nil line))
+AreLines-more number (q ∷ qs) text last p line h is l =
+    let next : last ≡ number + 1 + length qs = omega arith in
+    (h.0, h.1 ++ line, h.2, AreLines-more (number + 1) qs h.1 last p line h.3 next l, ap (λ t. t ++ line) h.4 ∙ append_assoc h.0 h.1 line)
+
+-- two pieces in a row are one
+pub appended_twice : (w v u : Option (List ℕ)) (a b : List ℕ) → v ≡ append_known w a → u ≡ append_known v b → u ≡ append_known w (a ++ b)
+appended_twice None v u a b e f = f ∙ ap (λ x. append_known x b) e
+appended_twice (Some xs) v u a b e f = f ∙ ap (λ x. append_known x b) e ∙ ap Some (append_assoc xs a b)
+
+-- a front of the last piece is a front of all
+pub appended_front :
+    (w v u : Option (List ℕ)) (a b : List ℕ) (k : ℕ)
+    → v ≡ append_known w a
+    → u ≡ append_known v (take k b)
+    → u ≡ append_known w (take (length a + k) (a ++ b))
+appended_front w v u a b k e f =
+    appended_twice w v u a (take k b) e f ∙ ap (λ x. append_known w x) (sym (take-append-add a b k))
+
+-- nothing appended
+pub appended_nothing : (w : Option (List ℕ)) → w ≡ append_known w []
+appended_nothing None = refl
+appended_nothing (Some xs) = ap Some (sym (append-nil xs))
