@@ -11,8 +11,8 @@
 //! The data is four bytes in network order: 20 bits of FlowMonID, the loss bit, the delay bit, and ten
 //! reserved bits, which are zero when written and ignored when read.
 
-ghost use Rattle.std.specs.Prelude.{◌≡◌, ℕ, ◌+◌, ◌^◌, ◌<◌, ◌≤◌, length, take, IfSome, Some, None};
-ghost use Rattle.am_opts.specs.Marking.{Marking, mark_of, data_of, Spells};
+ghost use Rattle.std.specs.Prelude.{◌≡◌, ℕ, ◌+◌, ◌^◌, ◌<◌, ◌≤◌, ◌↔◌, List, ◌++◌, length, take, IfSome, Some, None};
+ghost use Rattle.am_opts.specs.Marking.{Marking, mark_of, data_of, Spells, IsCanonical};
 
 use std::marker::Model;
 
@@ -86,6 +86,20 @@ impl Mark {
     {
         self.delay
     }
+}
+
+/// The six bytes that spell a mark, with reserved bits zero (RFC 9343, section 3.1).
+///
+/// `decode_mark` of these bytes, whatever follows them, gives the mark.
+pub fn encode_mark(mark: Mark) -> [u8; 6]
+    ensures canonical { IsCanonical result mark }
+    // Of the fronts of these bytes and any that follow, the first six alone spell a mark, and it is this one.
+    ensures read_back { (more : List ℕ) (n : ℕ) (other : Marking) → n ≤ length (result ++ more)
+        → Spells (take n (result ++ more)) other ↔ (n ≡ 6) × (other ≡ mark) }
+{
+    let word = mark.flow * 4096 + u32::from(mark.loss) * 2048 + u32::from(mark.delay) * 1024;
+    let [x, y, z, w] = word.to_be_bytes();
+    [OPTION_TYPE, DATA_LENGTH, x, y, z, w]
 }
 
 /// The mark that the bytes begin with, and how many bytes spell it, which is always 6 (RFC 9343, section 3.1).
