@@ -175,6 +175,19 @@ mod tests {
     }
 
     #[test]
+    fn a_mark_is_written_with_reserved_bits_zero(rt: HostRuntime) {
+        let every_bit = Mark::new(0xfffff, true, true).expect(&rt, "a mark");
+        assert_eq!(rt;
+            encode_mark(every_bit).as_slice(),
+            b"\x12\x04\xff\xff\xfc\x00".as_slice()
+        );
+        let mark = Mark::new(0x12345, true, false).expect(&rt, "a mark");
+        let bytes = encode_mark(mark);
+        assert_eq!(rt; bytes.as_slice(), b"\x12\x04\x12\x34\x58\x00".as_slice());
+        assert_eq!(rt; decode_mark(&bytes), Some((mark, 6)));
+    }
+
+    #[test]
     fn a_flow_has_twenty_bits(rt: HostRuntime) {
         assert!(rt; Mark::new(1_048_576, false, false).is_none());
         let mark = Mark::new(1_048_575, false, true).expect(&rt, "a mark");
