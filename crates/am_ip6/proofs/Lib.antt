@@ -1,3 +1,5 @@
 pub mod ChainLemmas
 pub mod Early
 pub mod BadOptions
+pub mod LeftLemmas
+pub mod MarkLemmas

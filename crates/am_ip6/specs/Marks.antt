@@ -10,21 +10,31 @@ use Rattle.am_ip6.specs.Endings.Ended.{WasCut}
 abbrev pub IsNoMark : Placed → Type 0
 IsNoMark o = (m : Marking) → Spells o.bytes m → ⊥
 
--- the first mark among the options of a header, and its place in the packet
-pub record MarksHeader (h : Lent) (mark : Marking) (at : ℕ) : Type 0 where
+-- the first mark among the options of an area, and its place there
+pub record HasMark (area : List ℕ) (mark : Marking) (place : ℕ) : Type 0 where
   pub before : List Placed
   pub option : Placed
   pub behind : List Placed
-  pub options : IsOptionsOf (drop 2 h.bytes) (before ++ option ∷ behind)
+  pub options : IsOptionsOf area (before ++ option ∷ behind)
   pub none_before : All IsNoMark before
   pub spelled : Spells option.bytes mark
-  pub at_is : at ≡ h.at + 2 + option.at
+  pub place_is : place ≡ option.at
+
+-- no option of an area is a mark
+pub record HasNoMark (area : List ℕ) : Type 0 where
+  pub options : List Placed
+  pub list : IsOptionsOf area options
+  pub none : All IsNoMark options
+
+-- the first mark among the options of a header, and its place in the packet
+pub record MarksHeader (h : Lent) (mark : Marking) (at : ℕ) : Type 0 where
+  pub place : ℕ
+  pub has : HasMark (drop 2 h.bytes) mark place
+  pub at_is : at ≡ h.at + 2 + place
 
 -- no option of a header is a mark
-pub record IsUnmarkedHeader (h : Lent) : Type 0 where
-  pub options : List Placed
-  pub list : IsOptionsOf (drop 2 h.bytes) options
-  pub none : All IsNoMark options
+abbrev pub IsUnmarkedHeader : Lent → Type 0
+IsUnmarkedHeader h = HasNoMark (drop 2 h.bytes)
 
 -- a header that isn't of this kind, or has no mark
 abbrev pub IsPassed : ℕ → Lent → Type 0

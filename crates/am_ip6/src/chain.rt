@@ -58,7 +58,7 @@ pub enum Ending {
 }
 
 // Where a header may begin: the number that announces it, its place, and the place of that number.
-#[derive(Clone, Copy)]
+#[derive(Clone, Copy, Debug)]
 pub(crate) struct Announced {
     pub(crate) kind: u8,
     pub(crate) at: usize,
@@ -109,6 +109,7 @@ pub(crate) fn step<'a>(bytes: &'a [u8], whole: bool, spot: Announced) -> Result<
     ensures stands { IfOk result (λ r. Stands bytes.now (spot_shown spot) (lent r.0)) }
     ensures behind { IfOk result (λ r. spot_shown r.1 ≡ spot_behind bytes.now (lent r.0)) }
     ensures within { IfOk result (λ r. (spot.at + 8 ≤ r.1.at) × (r.1.at ≤ limit_of bytes.now)) }
+    ensures room { IfOk result (λ r. (2 ≤ length r.0.bytes.now) × (length r.0.bytes.now ≤ 2048) × (r.0.at + length r.0.bytes.now ≤ length bytes.now)) }
     ensures ends { IfErr result (λ e. EndsAt bytes.now whole (spot_shown spot) (ending_shown e)) }
 {
     let Announced { kind, at, told_at } = spot;

@@ -3,7 +3,9 @@
 mod chain;
 mod fixed_header;
 mod headers;
+mod marks;
 
 pub use chain::{Ending, Header};
 pub use fixed_header::Fixed;
-pub use headers::walk_ending;
+pub use headers::{Walk, walk_ending};
+pub use marks::{Found, Place, find_mark};

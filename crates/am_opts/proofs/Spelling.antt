@@ -1,7 +1,9 @@
 -- What the bytes of a spelling are, and that they spell one mark.
-use Rattle.std.proofs.Common.{arith, refl, ap, ◌≡◌, ℕ, ◌+◌, ◌*◌, ◌^◌, ◌<◌, ◌≤◌, ◌-◌, Bool, true, false, List, [], ◌∷◌, length, take, drop, slice_index_or, ◌++◌}
-use Rattle.std.proofs.lemmas.List.{take-append-drop}
-use Rattle.am_opts.specs.Marking.{Marking, bit, data_of, Spells}
+use Rattle.std.proofs.Common.{arith, refl, ap, sym, subst, w32, ◌≡◌, ℕ, ◌+◌, ◌*◌, ◌^◌, ◌<◌, ◌≤◌, ◌-◌, ◌↔◌, Bool, true, false, List, [], ◌∷◌, length, take, drop, slice_index_or, ◌++◌}
+use Rattle.std.proofs.lemmas.List.{take-append-drop, length-take-le}
+use Rattle.std.proofs.lemmas.Nat.{from_be_bytes-to_be_bytes_4}
+use Rattle.std.specs.Int.{to_be_bytes, from_bool}
+use Rattle.am_opts.specs.Marking.{Marking, mark_of, bit, data_of, Spells, IsCanonical}
 
 -- the big-endian number of the data: the four bytes behind type and length
 abbrev pub word_of : List ℕ → ℕ
@@ -78,3 +80,53 @@ spells-six bs word m long type_is length_is is from until fits = record {
   below = omega (arith, until);
   flow_fits = fits;
 }
+
+-- the data of a mark, with its bits as numbers
+pub data-written :
+    (flow : ℕ) (loss delay : Bool) (a b : ℕ) → a ≡ from_bool loss → b ≡ from_bool delay
+    → flow * 2 ^ 12 + a * 2 ^ 11 + b * 2 ^ 10 ≡ data_of (mark_of flow loss delay) 0
+data-written flow true true a b e f = omega (arith, e, f)
+data-written flow true false a b e f = omega (arith, e, f)
+data-written flow false true a b e f = omega (arith, e, f)
+data-written flow false false a b e f = omega (arith, e, f)
+
+-- type, length and the bytes of a mark's data with reserved bits zero are its canonical spelling
+pub canonical-written :
+    (bytes : List ℕ) (word : ℕ) (m : Marking) → bytes ≡ to_be_bytes w32 word → word ≡ data_of m 0 → m.flow < 2 ^ 20
+    → IsCanonical (18 ∷ 4 ∷ slice_index_or bytes 0 0 ∷ slice_index_or bytes 1 0 ∷ slice_index_or bytes 2 0 ∷ slice_index_or bytes 3 0 ∷ []) m
+canonical-written bytes word m e is fits =
+    let small : word < 2 ^ 32 = omega (arith, bit-le m.loss, bit-le m.delay) in
+    let back = from_be_bytes-to_be_bytes_4 word small in
+    record {
+      spells = record {
+        x = slice_index_or bytes 0 0;
+        y = slice_index_or bytes 1 0;
+        z = slice_index_or bytes 2 0;
+        w = slice_index_or bytes 3 0;
+        reserved = 0;
+        spelled = refl;
+        bits = subst (λ (d : List ℕ). data_of m 0 ≡ slice_index_or d 0 0 * 2 ^ 24 + slice_index_or d 1 0 * 2 ^ 16 + slice_index_or d 2 0 * 2 ^ 8 + slice_index_or d 3 0) (sym e) (omega (arith, back, is));
+        below = omega arith;
+        flow_fits = fits;
+      };
+      none_reserved = refl;
+    }
+
+-- the canonical spelling and anything behind it begin with it
+pub canonical-begins : (code more : List ℕ) (mark : Marking) → IsCanonical code mark → Spells (take 6 (code ++ more)) mark
+canonical-begins code more mark c =
+    let front : take 6 (code ++ more) ≡ code = rw c.spells.spelled refl in
+    subst (λ (b : List ℕ). Spells b mark) (sym front) c.spells
+
+-- they begin with no other spelling
+pub canonical-alone :
+    (code more : List ℕ) (mark : Marking) → IsCanonical code mark → (n : ℕ) (other : Marking) → n ≤ length (code ++ more)
+    → Spells (take n (code ++ more)) other ↔ (n ≡ 6) × (other ≡ mark)
+canonical-alone code more mark c n other fits = (
+  (λ s.
+      let size : n ≡ 6 = omega (arith, length-take-le n (code ++ more) fits, ap length s.spelled) in
+      let word = ap (λ (b : List ℕ). word_of (b ++ more)) c.spells.spelled in
+      let is : data_of mark 0 ≡ word_of (code ++ more) = omega (arith, word, c.spells.bits, c.none_reserved) in
+      (size, sym (spells-one (code ++ more) n (data_of mark 0) mark other is (omega arith) (omega arith) s))),
+  (λ h. subst (λ k. Spells (take k (code ++ more)) other) (sym h.0) (subst (λ m. Spells (take 6 (code ++ more)) m) (sym h.1) (canonical-begins code more mark c))),
+)

@@ -31,3 +31,8 @@ pub record Spells (bytes : List ℕ) (mark : Marking) : Type 0 where
   pub bits : data_of mark reserved ≡ x * 2 ^ 24 + y * 2 ^ 16 + z * 2 ^ 8 + w
   pub below : reserved < 2 ^ 10
   pub flow_fits : mark.flow < 2 ^ 20
+
+-- these bytes are the spelling of the mark that is written: the one whose reserved bits are zero
+pub record IsCanonical (bytes : List ℕ) (mark : Marking) : Type 0 where
+  pub spells : Spells bytes mark
+  pub none_reserved : spells.reserved ≡ 0

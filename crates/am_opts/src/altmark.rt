@@ -11,8 +11,8 @@
 //! The data is four bytes in network order: 20 bits of FlowMonID, the loss bit, the delay bit, and ten
 //! reserved bits, which are zero when written and ignored when read.
 
-ghost use Rattle.std.specs.Prelude.{◌≡◌, ℕ, ◌+◌, ◌^◌, ◌<◌, ◌≤◌, length, take, IfSome, Some, None};
-ghost use Rattle.am_opts.specs.Marking.{Marking, mark_of, data_of, Spells};
+ghost use Rattle.std.specs.Prelude.{◌≡◌, ℕ, ◌+◌, ◌^◌, ◌<◌, ◌≤◌, ◌↔◌, List, ◌++◌, length, take, IfSome, Some, None};
+ghost use Rattle.am_opts.specs.Marking.{Marking, mark_of, data_of, Spells, IsCanonical};
 
 use std::marker::Model;
 
@@ -88,6 +88,20 @@ impl Mark {
     }
 }
 
+/// The six bytes that spell a mark, with reserved bits zero (RFC 9343, section 3.1).
+///
+/// `decode_mark` of these bytes, whatever follows them, gives the mark.
+pub fn encode_mark(mark: Mark) -> [u8; 6]
+    ensures canonical { IsCanonical result mark }
+    // Of the fronts of these bytes and any that follow, the first six alone spell a mark, and it is this one.
+    ensures read_back { (more : List ℕ) (n : ℕ) (other : Marking) → n ≤ length (result ++ more)
+        → Spells (take n (result ++ more)) other ↔ (n ≡ 6) × (other ≡ mark) }
+{
+    let word = mark.flow * 4096 + u32::from(mark.loss) * 2048 + u32::from(mark.delay) * 1024;
+    let [x, y, z, w] = word.to_be_bytes();
+    [OPTION_TYPE, DATA_LENGTH, x, y, z, w]
+}
+
 /// The mark that the bytes begin with, and how many bytes spell it, which is always 6 (RFC 9343, section 3.1).
 ///
 /// None exactly where the bytes begin with no AltMark Option: where there are fewer than six, where the type
@@ -158,6 +172,19 @@ mod tests {
         // a mark behind a Pad1
         assert_eq!(rt; parts(b"\x00\x12\x04\x12\x34\x58\x00"), None);
         assert_eq!(rt; parts(b""), None);
+    }
+
+    #[test]
+    fn a_mark_is_written_with_reserved_bits_zero(rt: HostRuntime) {
+        let every_bit = Mark::new(0xfffff, true, true).expect(&rt, "a mark");
+        assert_eq!(rt;
+            encode_mark(every_bit).as_slice(),
+            b"\x12\x04\xff\xff\xfc\x00".as_slice()
+        );
+        let mark = Mark::new(0x12345, true, false).expect(&rt, "a mark");
+        let bytes = encode_mark(mark);
+        assert_eq!(rt; bytes.as_slice(), b"\x12\x04\x12\x34\x58\x00".as_slice());
+        assert_eq!(rt; decode_mark(&bytes), Some((mark, 6)));
     }
 
     #[test]

@@ -9,5 +9,5 @@
 mod altmark;
 mod options;
 
-pub use altmark::{Mark, decode_mark};
+pub use altmark::{Mark, decode_mark, encode_mark};
 pub use options::{Opt, OptFault, Options, check_options};

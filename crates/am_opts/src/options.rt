@@ -111,3 +111,54 @@ fn first_option(bytes: &[u8]) -> Option<&[u8]>
     let (option, _) = bytes.split_at(length);
     Some(option)
 }
+
+#[cfg(test)]
+mod tests {
+    use super::*;
+
+    // The count of the options, or the place of the fault.
+    fn count(area: &[u8]) -> Result<u32, usize>
+        requires { length area.now ≤ 2046 }
+    {
+        match check_options(area) {
+            Ok(count) => Ok(count),
+            Err(fault) => Err(fault.place),
+        }
+    }
+
+    #[test]
+    fn option_lists_are_counted(rt: HostRuntime) {
+        assert_eq!(rt; count(b""), Ok(0));
+        assert_eq!(rt; count(b"\x00"), Ok(1));
+        assert_eq!(rt; count(b"\x01\x00"), Ok(1));
+        // the data of a PadN has any value
+        assert_eq!(rt; count(b"\x01\x02\xff\xee\x00"), Ok(2));
+        // a Router Alert (RFC 2711, section 2.1) before a mark
+        assert_eq!(rt; count(b"\x05\x02\x00\x00\x12\x04\x12\x34\x58\x00"), Ok(2));
+        assert_eq!(rt; count(b"\xff\x00"), Ok(1));
+    }
+
+    #[test]
+    fn faults_have_the_length_of_the_list_before_them(rt: HostRuntime) {
+        assert_eq!(rt; count(b"\x01"), Err(0));
+        assert_eq!(rt; count(b"\x00\x05\x03\x00\x00"), Err(1));
+        assert_eq!(rt; count(b"\x12\x04\x00\x00\x00"), Err(0));
+        assert_eq!(rt; count(b"\x00\x00\x00\x07"), Err(3));
+    }
+
+    #[test]
+    fn options_are_lent_up_to_a_fault(rt: HostRuntime) {
+        let mut options = Options::over(b"\x00\x01\x02\xff\xee\x05\x00\x12\x04");
+        let pad = options.next().expect(&rt, "a Pad1");
+        assert_eq!(rt; pad.at, 0);
+        assert_eq!(rt; pad.bytes, b"\x00".as_slice());
+        let pads = options.next().expect(&rt, "a PadN");
+        assert_eq!(rt; pads.at, 1);
+        assert_eq!(rt; pads.bytes, b"\x01\x02\xff\xee".as_slice());
+        let other = options.next().expect(&rt, "an option of type 5");
+        assert_eq!(rt; other.at, 5);
+        assert_eq!(rt; other.bytes, b"\x05\x00".as_slice());
+        assert!(rt; options.next().is_none());
+        assert_eq!(rt; Options::over(b"\x00\x00\x03").count(), 2);
+    }
+}
