@@ -9,6 +9,8 @@ mod link;
 mod run;
 mod stop;
 mod table;
+#[cfg(test)]
+mod tests;
 mod words;
 
 use am_base::{DiskShelf, StdSink};
