@@ -1,5 +1,5 @@
 -- One more record shown: its line behind those before it.
-use Rattle.std.proofs.Common.{◌≡◌, ℕ, ◌+◌, ◌≤◌, Bool, List, [], ◌∷◌, ◌++◌, length, take, Option, None, Some, refl, ap, sym, ◌∙◌, subst, arith, append_assoc}
+use Rattle.std.proofs.Common.{◌≡◌, ℕ, ◌+◌, ◌≤◌, Bool, List, [], ◌∷◌, ◌++◌, length, take, Option, None, Some, refl, ap, sym, ◌∙◌, subst, arith, append_assoc, codes}
 use Rattle.std.proofs.Math.Seq.{take-append-add}
 use Rattle.std.proofs.lemmas.List.{append-nil}
 use Rattle.std.specs.Io.KnownBytes.{append_known}
@@ -49,3 +49,31 @@ appended_front w v u a b k e f =
 pub appended_nothing : (w : Option (List ℕ)) → w ≡ append_known w []
 appended_nothing None = refl
 appended_nothing (Some xs) = ap Some (sym (append-nil xs))
+
+-- the pieces of a packet's text, one after another
+pub packet_pieces :
+    (l0 l1 l2 l3 l4 l5 l6 l7 word headers ending space first second : List ℕ)
+    → l1 ≡ l0 ++ word
+    → l2 ≡ l1 ++ headers
+    → l3 ≡ l2 ++ ending
+    → l4 ≡ l3 ++ space
+    → l5 ≡ l4 ++ first
+    → l6 ≡ l5 ++ space
+    → l7 ≡ l6 ++ second
+    → l7 ≡ l0 ++ (word ++ (headers ++ ending) ++ space ++ first ++ space ++ second)
+packet_pieces l0 l1 l2 l3 l4 l5 l6 l7 word headers ending space first second e1 e2 e3 e4 e5 e6 e7 =
+    e7
+    ∙ ap (λ x. x ++ second) (e6 ∙ ap (λ x. x ++ space) (e5 ∙ ap (λ x. x ++ first) (e4 ∙ ap (λ x. x ++ space) (e3 ∙ ap (λ x. x ++ ending) (e2 ∙ ap (λ x. x ++ headers) e1)))))
+    ∙ simp append_assoc
+
+-- the pieces of a line
+pub line_of_pieces :
+    (l0 l1 l2 l3 number reading captured original held : List ℕ)
+    → l0 ≡ []
+    → l1 ≡ l0 ++ (number ++ 32 ∷ (reading ++ 32 ∷ (captured ++ 32 ∷ (original ++ 32 ∷ []))))
+    → l2 ≡ l1 ++ held
+    → l3 ≡ l2 ++ 10 ∷ []
+    → l3 ≡ number ++ codes " " ++ reading ++ codes " " ++ captured ++ codes " " ++ original ++ codes " " ++ held ++ codes "\n"
+line_of_pieces l0 l1 l2 l3 number reading captured original held e0 e1 e2 e3 =
+    e3 ∙ ap (λ x. x ++ 10 ∷ []) (e2 ∙ ap (λ x. x ++ held) (e1 ∙ ap (λ x. x ++ (number ++ 32 ∷ (reading ++ 32 ∷ (captured ++ 32 ∷ (original ++ 32 ∷ []))))) e0))
+    ∙ simp append_assoc

@@ -1,4 +1,5 @@
 -- What the program's own values say: a command, a stop.
+use Rattle.std.specs.Prelude.{ℕ, List}
 use Rattle.am_base.specs.declared.file.FileFault.{FileFault}
 use Rattle.am_base.specs.declared.file.FileFault.TheVariants as fault
 use Rattle.am_cli.specs.Commands as said
