@@ -116,7 +116,9 @@ fn mark_in(header: Header, kind: u8) -> Option<(Mark, usize)>
         return None;
     }
     let (_, area) = header.bytes.split_at(2);
-    let (mark, at) = first_mark(area)?;
+    let Some((mark, at)) = first_mark(area) else {
+        return None;
+    };
     Some((mark, header.at + 2 + at))
 }
 
@@ -139,6 +141,8 @@ fn spelled(option: &[u8]) -> Option<Mark>
     requires { IsOption option.now }
     ensures { MatchOption result ((m : Marking) → Spells option.now m → ⊥) (λ m. Spells option.now m) }
 {
-    let (mark, _) = decode_mark(option)?;
+    let Some((mark, _)) = decode_mark(option) else {
+        return None;
+    };
     Some(mark)
 }
