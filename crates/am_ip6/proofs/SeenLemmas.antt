@@ -1,11 +1,11 @@
 -- What is found of a mark, from what a walk has passed and where it stands.
-use Rattle.std.proofs.Common.{arith, refl, sym, ap, subst, ◌∙◌, ◌≡◌, ◌≢◌, ◌⊎◌, inl, inr, ⊎_elim, ℕ, ◌+◌, ◌*◌, ◌<◌, ◌≤◌, Bool, true, false, List, [], ◌∷◌, ◌++◌, length, take, drop, slice_index, All}
+use Rattle.std.proofs.Common.{arith, refl, sym, ap, subst, ◌∙◌, ◌≡◌, ◌≢◌, inl, inr, ⊎_elim, ℕ, ◌≤◌, Bool, true, false, List, [], ◌∷◌, ◌++◌, length, drop, slice_index, All}
 use Rattle.std.proofs.lemmas.List.Elements.{All-nil, All-cons, All-weaker}
 use Rattle.std.proofs.lemmas.List.{length-take-le, length-drop}
 use Rattle.am_opts.specs.Marking.{Marking}
-use Rattle.am_ip6.specs.Fixed.{IsFixed, limit_of}
+use Rattle.am_ip6.specs.Fixed.{IsFixed}
 use Rattle.am_ip6.specs.Chains.{Lent, Spot, Stands, IsWalked, IsChain, IsLongestChain, HasHeaders, first_spot, spot_behind, spot_after, header_length}
-use Rattle.am_ip6.specs.Endings.{Ended, EndsAt, EndsEarly, EndsSo, IsShort, MayBeCut}
+use Rattle.am_ip6.specs.Endings.{Ended, EndsAt, EndsEarly, EndsSo}
 use Rattle.am_ip6.specs.Endings.Ended.{AtNumber, WasCut, IsMalformed}
 use Rattle.am_ip6.specs.Marks.{IsPassed, MarksHeader, MarksChain, HidesHopByHop, Seen, SeenInHopByHop, SeenInDestination}
 use Rattle.am_ip6.specs.Marks.Seen.{Marks, NoMark, CutOff}
@@ -121,10 +121,11 @@ hop-early b w e f seen hs n ends u has so =
 pub hop-other :
     (b : List ℕ) (w : Bool) (f : Ended) (hs : List Lent) → IsFixed b → (slice_index b 6 ≡ 0 → ⊥)
     → HasHeaders b hs → EndsSo b w hs f → SeenInHopByHop b w hs f NoMark
-hop-other b w f hs fixed other has so =
-    (All-weaker (λ h. h.kind ≢ 0) (IsPassed 0) (λ h n. inl n) hs
-        (later b (first_spot b) hs (omega arith) (λ both. other both.0) (has.fixed fixed).chain),
-    inr (λ cut. ⊎_elim (λ short. omega (arith, short, fixed.whole)) other cut.1))
+hop-other b w f hs fixed other has so = (
+  All-weaker (λ h. h.kind ≢ 0) (IsPassed 0) (λ h n. inl n) hs
+      (later b (first_spot b) hs (omega arith) (λ both. other both.0) (has.fixed fixed).chain),
+  inr (λ cut. ⊎_elim (λ short. omega (arith, short, fixed.whole)) other cut.1),
+)
 
 -- a fixed header that announces a Hop-by-Hop header, which isn't there whole
 pub hop-end :
@@ -154,7 +155,8 @@ hop-unmarked b w s h f hs fixed is here zero_is passed has =
     let tail = longest-tail b (first_spot b) h hs first (has.fixed fixed) in
     let size : length h.bytes ≡ header_length b 40 =
     ap length first.bytes ∙ length-take-le (header_length b 40) (drop 40 b) (omega (arith, first.fits.whole, length-drop 40 b)) in
-    let others = later b (spot_behind b h) tail.0 (omega (arith, first.at, size)) (λ both. omega (arith, first.at, size, both.1)) tail.2.chain in
-    (subst (λ x. All (IsPassed 0) x) (sym tail.1)
-        (All-cons (IsPassed 0) h tail.0 passed (All-weaker (λ h. h.kind ≢ 0) (IsPassed 0) (λ h n. inl n) tail.0 others)),
-    inl (h, tail.0, tail.1, first.kind ∙ zero_is))
+    let others = later b (spot_behind b h) tail.0 (omega (arith, first.at, size)) (λ both. omega (arith, first.at, size, both.1)) tail.2.chain in (
+      subst (λ x. All (IsPassed 0) x) (sym tail.1)
+          (All-cons (IsPassed 0) h tail.0 passed (All-weaker (λ h. h.kind ≢ 0) (IsPassed 0) (λ h n. inl n) tail.0 others)),
+      inl (h, tail.0, tail.1, first.kind ∙ zero_is),
+    )

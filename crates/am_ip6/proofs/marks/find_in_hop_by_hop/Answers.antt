@@ -18,10 +18,10 @@ returns-in-Some c = λ hs ended has so.
 
 pub returns-in-None : goal.returns-in-None
 returns-in-None c = λ hs ended has so.
-    hop-unmarked _ _ (spot_shown c.in-Ok.first) (lent c.in-Ok-step.header) ended hs c.in-Ok.ensures.fixed.0 c.in-Ok.ensures.fixed.1
+    hop-unmarked _ c.args.whole (spot_shown c.in-Ok.first) (lent c.in-Ok-step.header) ended hs c.in-Ok.ensures.fixed.0 c.in-Ok.ensures.fixed.1
     c.in-Ok-step.ensures.stands (sym (ap (λ (s : Spot). s.kind) c.in-Ok.ensures.fixed.1) ∙ c.if-first-ne-HOP_BY_HOP.false) c.in-None.ensures has
 
 pub returns-in-Err-step : goal.returns-in-Err-step
 returns-in-Err-step c = λ hs ended has so.
-    hop-end _ _ (spot_shown c.in-Ok.first) (ending_shown c.in-Err-step.ending) ended ? hs c.in-Ok.ensures.fixed.0 c.in-Ok.ensures.fixed.1
-    (sym (ap (λ (s : Spot). s.kind) c.in-Ok.ensures.fixed.1) ∙ c.if-first-ne-HOP_BY_HOP.false) c.in-Err-step.ensures.ends ? has so
+    hop-end _ _ (spot_shown c.in-Ok.first) (ending_shown c.in-Err-step.ending) ended (seen_shown c.unmarked-in-Err-step.result) hs c.in-Ok.ensures.fixed.0 c.in-Ok.ensures.fixed.1
+    (sym (ap (λ (s : Spot). s.kind) c.in-Ok.ensures.fixed.1) ∙ c.if-first-ne-HOP_BY_HOP.false) c.in-Err-step.ensures.ends c.unmarked-in-Err-step.ensures has so

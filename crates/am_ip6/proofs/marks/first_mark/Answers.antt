@@ -1,5 +1,5 @@
 -- The options that are lent are the list, those so far without a mark and then the one in hand.
-use Rattle.std.proofs.Common.{arith, refl, sym, ap, subst, ◌∙◌, ◌≡◌, List, map, [], ◌∷◌, ◌++◌, All}
+use Rattle.std.proofs.Common.{refl, sym, ap, subst, ◌∙◌, List, map, [], ◌∷◌, ◌++◌, All}
 use Rattle.std.proofs.lemmas.List.Elements.{All-append, All-cons, All-nil}
 use Rattle.std.proofs.lemmas.List.{map-append}
 use Rattle.am_opts.specs.Options.{Placed, IsOptionsOf}
@@ -39,10 +39,13 @@ returns-in-Some-spelled-clause-cases c =
     }
 
 pub loop-option-preserved : goal.loop-option-preserved
-loop-option-preserved c = (tt, tt,
-    subst (λ x. All IsNoMark x) (sym (map-append placed c.loop-option.yielded (c.in-Some.option ∷ [])))
-    (All-append IsNoMark (map placed c.loop-option.yielded) (placed c.in-Some.option ∷ []) c.loop-option.invariant.2
-        (All-cons IsNoMark (placed c.in-Some.option) [] c.in_default.ensures (All-nil IsNoMark))))
+loop-option-preserved c = (
+  tt,
+  tt,
+  subst (λ x. All IsNoMark x) (sym (map-append placed c.loop-option.yielded (c.in-Some.option ∷ [])))
+      (All-append IsNoMark (map placed c.loop-option.yielded) (placed c.in-Some.option ∷ []) c.loop-option.invariant.2
+      (All-cons IsNoMark (placed c.in-Some.option) [] c.in_default.ensures (All-nil IsNoMark))),
+)
 
 pub returns-clause-cases : goal.returns-clause-cases
 returns-clause-cases c =
