@@ -1,5 +1,5 @@
 -- A header whose options aren't an option list, from what is known of its bytes.
-use Rattle.std.proofs.Common.{arith, ap, subst, ◌∙◌, ◌≡◌, ℕ, ◌+◌, List, length, take, drop}
+use Rattle.std.proofs.Common.{ap, subst, ◌∙◌, ◌≡◌, ℕ, ◌+◌, List, length, take, drop}
 use Rattle.am_opts.specs.Options.{Placed, IsLongest, joined}
 use Rattle.am_ip6.specs.Chains.{Spot, IsWalked, FitsAt, HasOptions, header_length}
 use Rattle.am_ip6.specs.Endings.{HasBadOptions}

@@ -1,11 +1,11 @@
 -- Chains: a header at a spot is one, the longest chain is one, and what a walk has passed.
-use Rattle.std.proofs.Common.{arith, refl, sym, ap, subst, ◌∙◌, ◌≡◌, ◌≢◌, ◌⊎◌, inl, inr, ℕ, zero, suc, ◌+◌, ◌*◌, ◌-◌, ◌<◌, ◌≤◌, Bool, true, false, List, [], ◌∷◌, ◌++◌, length, take, drop, slice_index, append_assoc, All, ⊎_elim}
+use Rattle.std.proofs.Common.{arith, refl, sym, ap, subst, ◌∙◌, ◌≡◌, ℕ, Bool, List, [], ◌∷◌, ◌++◌, take, drop, append_assoc, All, ⊎_elim}
 use Rattle.std.proofs.lemmas.List.{append-nil}
 use Rattle.std.proofs.lemmas.List.Elements.{All-nil, All-cons, All-append}
-use Rattle.am_ip6.specs.Endings.{Ended, EndsAt, EndsSo, HasBadOptions}
+use Rattle.am_ip6.specs.Endings.{Ended, EndsAt, EndsSo}
 use Rattle.am_ip6.specs.Endings.Ended.{AtNumber, WasCut, IsMalformed}
-use Rattle.am_ip6.specs.Fixed.{IsFixed, limit_of}
-use Rattle.am_ip6.specs.Chains.{Lent, Spot, IsWalked, FitsAt, HasOptions, Stands, IsChain, IsLongestChain, HasHeaders, first_spot, spot_behind, spot_after, header_length}
+use Rattle.am_ip6.specs.Fixed.{IsFixed}
+use Rattle.am_ip6.specs.Chains.{Lent, Spot, HasOptions, Stands, IsChain, IsLongestChain, HasHeaders, first_spot, spot_behind, spot_after, header_length}
 
 same_parts : (h k : Lent) → h.kind ≡ k.kind → h.at ≡ k.at → h.bytes ≡ k.bytes → h ≡ k
 same_parts h k a b c = grind arith
@@ -83,9 +83,9 @@ tail_longest :
 tail_longest packet s k ks longest = record {
   chain = longest.chain.1;
   longest = λ others other.
-    let more = longest.longest (k ∷ others) (longest.chain.0, other) in
-    let e : ks ≡ others ++ more.0 = cc (more.1) in
-    (more.0, e);
+      let more = longest.longest (k ∷ others) (longest.chain.0, other) in
+      let e : ks ≡ others ++ more.0 = cc (more.1) in
+      (more.0, e);
 }
 
 -- where a header stands, the longest chain begins with it
@@ -171,7 +171,7 @@ pub ends-so :
     → HasHeaders b hs → EndsSo b w hs e
 ends-so P b w s e hs fixed reach ends has = record {
   fixed = λ f.
-    let all = reaches-end P b w (first_spot b) s e hs (reach hs (has.fixed f)) ends in
-    subst (λ x. EndsAt b w x e) (sym all.1) ends;
+      let all = reaches-end P b w (first_spot b) s e hs (reach hs (has.fixed f)) ends in
+      subst (λ x. EndsAt b w x e) (sym all.1) ends;
   other = λ n. absurd (n fixed);
 }

@@ -1,5 +1,5 @@
 -- A packet that has neither a fixed header of version 6 nor another version is short.
-use Rattle.std.proofs.Common.{arith, ◌≡◌, ℕ, ◌<◌, ◌≤◌, ◌/◌, List, length, slice_index, ⊎_elim}
+use Rattle.std.proofs.Common.{arith, ℕ, ◌/◌, List, length, slice_index, ⊎_elim}
 use Rattle.std.proofs.lemmas.Bool.{cases_lt, cases_eq}
 use Rattle.am_ip6.specs.Fixed.{IsFixed}
 use Rattle.am_ip6.specs.Endings.{IsOtherVersion, IsShort}

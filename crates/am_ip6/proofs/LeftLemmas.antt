@@ -1,15 +1,14 @@
 -- The headers that a walk has still to lend are the longest chain from where it is.
-use Rattle.std.proofs.Common.{arith, refl, sym, ap, subst, ◌∙◌, ◌≡◌, ◌≢◌, ◌⊎◌, inl, inr, ⊎_elim, ℕ, zero, suc, ◌+◌, ◌*◌, ◌-◌, ◌<◌, ◌≤◌, Bool, true, false, cond, List, [], ◌∷◌, ◌++◌, length, take, drop, slice_index, eqb, leb, ◌&&◌, ◌||◌}
-use Rattle.std.proofs.lemmas.Bool.{leb-true, le-leb, eqb-true, cases_Bool, cond-true, cond-false}
+use Rattle.std.proofs.Common.{arith, refl, subst, ◌≡◌, ◌⊎◌, inl, inr, ⊎_elim, ℕ, zero, suc, ◌+◌, ◌≤◌, Bool, true, false, cond, List, [], ◌∷◌, length, drop, eqb, ◌&&◌, ◌||◌}
+use Rattle.std.proofs.lemmas.Bool.{eqb-true}
 use Rattle.std.proofs.lemmas.Bool.Decides.{nat_tests}
-use Rattle.std.proofs.lemmas.List.{length-take-le, length-drop, append-nil}
-use Rattle.am_opts.specs.Options.{Placed, joined, IsOptionsOf, IsLongest}
+use Rattle.std.proofs.lemmas.List.{length-take-le, length-drop}
 use Rattle.am_opts.specs.Lent.{options_behind}
 use Rattle.am_opts.proofs.Longest.{behind_longest, all_of, none_of}
-use Rattle.am_ip6.specs.Fixed.{IsFixed, limit_of}
-use Rattle.am_ip6.specs.Chains.{Lent, Spot, IsWalked, FitsAt, HasOptions, Stands, IsChain, IsLongestChain, HasHeaders, first_spot, spot_behind, spot_after, header_length}
+use Rattle.am_ip6.specs.Fixed.{IsFixed}
+use Rattle.am_ip6.specs.Chains.{Lent, Spot, IsWalked, FitsAt, HasOptions, Stands, IsLongestChain, HasHeaders, first_spot, spot_behind, header_length}
 use Rattle.am_ip6.specs.Left.{header_at, walked_at, fits_at, has_options, stands_at, headers_from}
-use Rattle.am_ip6.proofs.ChainLemmas.{stands-unique, longest-if_stopped, longest-cons, longest-none, longest-unique, ends-nothing}
+use Rattle.am_ip6.proofs.ChainLemmas.{longest-if_stopped, longest-cons, longest-none, longest-unique, ends-nothing}
 use Rattle.am_ip6.specs.Endings.{Ended, EndsAt}
 
 walked-true : (s : Spot) → walked_at s ≡ true → IsWalked s
@@ -66,7 +65,7 @@ stands-true b s e =
       fits = fits-true b s.at more.0;
       bytes = refl;
       options = λ n.
-        ⊎_elim (λ k. absurd (n (eqb-true s.kind 43 k))) (λ o. options-true (header_at b s).bytes o) (or-true (eqb s.kind 43) _ more.1);
+          ⊎_elim (λ k. absurd (n (eqb-true s.kind 43 k))) (λ o. options-true (header_at b s).bytes o) (or-true (eqb s.kind 43) _ more.1);
     }
 
 stands-false : (b : List ℕ) (s : Spot) → stands_at b s ≡ false → (h : Lent) → Stands b s h → ⊥
@@ -74,11 +73,11 @@ unfolding stands_at
 stands-false b s e h here =
     ⊎_elim (λ w. walked-false s w here.walked)
     (λ more. ⊎_elim (λ f. fits-false b s.at f here.fits)
-        (λ o.
-          let parts = or-false (eqb s.kind 43) _ o in
-          let kind : s.kind ≡ 43 → ⊥ = λ k. grind (arith, nat_tests, k, parts.0) in
-          options-false (header_at b s).bytes parts.1 (subst (λ x. HasOptions x) here.bytes (here.options kind)))
-        (and-false (fits_at b s.at) _ more))
+    (λ o.
+    let parts = or-false (eqb s.kind 43) _ o in
+    let kind : s.kind ≡ 43 → ⊥ = λ k. grind (arith, nat_tests, k, parts.0) in
+    options-false (header_at b s).bytes parts.1 (subst (λ x. HasOptions x) here.bytes (here.options kind)))
+    (and-false (fits_at b s.at) _ more))
     (and-false (walked_at s) _ e)
 
 -- the bytes of a header that fits are as many as it says
@@ -93,10 +92,10 @@ unfolding headers_from
 from_longest zero b s h = longest-if_stopped b s [] tt (λ x here. omega (arith, h, here.fits.first_two))
 from_longest (suc more) b s h =
     elim (stands_at b s) as (λ t. stands_at b s ≡ t → IsLongestChain b s (cond t (header_at b s ∷ headers_from more b (spot_behind b (header_at b s))) [])) [
-      true ↦ λ e.
-        let here = stands-true b s e in
-        longest-cons b s (header_at b s) _ here
-        (from_longest more b (spot_behind b (header_at b s)) (omega (arith, h, fits-length b s here.fits)))
+      | true ↦ λ e.
+          let here = stands-true b s e in
+          longest-cons b s (header_at b s) _ here
+          (from_longest more b (spot_behind b (header_at b s)) (omega (arith, h, fits-length b s here.fits)))
       | false ↦ λ e. longest-if_stopped b s [] tt (stands-false b s e)
     ] refl
 
@@ -105,7 +104,7 @@ unfolding headers_from
 from_few zero b s = omega arith
 from_few (suc more) b s =
     elim (stands_at b s) as (λ t. length (cond t (header_at b s ∷ headers_from more b (spot_behind b (header_at b s))) []) ≤ suc more) [
-      true ↦ omega (arith, from_few more b (spot_behind b (header_at b s)))
+      | true ↦ omega (arith, from_few more b (spot_behind b (header_at b s)))
       | false ↦ omega arith
     ]
 

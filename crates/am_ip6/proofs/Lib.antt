@@ -3,3 +3,4 @@ pub mod Early
 pub mod BadOptions
 pub mod LeftLemmas
 pub mod MarkLemmas
+pub mod SeenLemmas

@@ -1,6 +1,8 @@
 -- Options that spell a mark or none, and the first one of a list.
-use Rattle.std.proofs.Common.{arith, refl, sym, ap, subst, ◌∙◌, ◌≡◌, ℕ, ◌+◌, ◌<◌, ◌≤◌, List, [], ◌∷◌, ◌++◌, length, take, drop, length-append, All}
-use Rattle.std.proofs.lemmas.List.{append-nil, take-length}
+use Rattle.std.proofs.Common.{arith, sym, ap, subst, ◌∙◌, ◌≡◌, ℕ, ◌+◌, ◌≤◌, List, [], ◌∷◌, ◌++◌, length, take, length-append}
+use Rattle.std.proofs.lemmas.List.{append-nil, take_all}
+use Rattle.std.proofs.Math.Seq.{take-length}
+use Rattle.am_opts.proofs.Longest.{all_of}
 use Rattle.std.proofs.lemmas.Grind.{flat_map-append}
 use Rattle.am_opts.specs.Marking.{Marking, Spells}
 use Rattle.am_opts.specs.Options.{Placed, IsOption, Follow, joined, IsOptionsOf, IsLongest}
@@ -28,9 +30,9 @@ pub list_of :
     (area : List ℕ) (all options : List Placed) → IsLongest 0 area all → IsOptionsOf area options → IsOptionsOf area all
 list_of area all options l is =
     let tail = l.longest options [] is.follow (is.whole ∙ sym (append-nil (joined options))) in
-    let none : length l.rest ≡ 0 =
+    let many : length (joined all) ≡ length area =
     omega (arith, ap length is.whole, ap length l.split, length-append (joined all) l.rest, ap (λ x. length (joined x)) tail.1, ap length (flat_map-append (λ (o : Placed). o.bytes) options tail.0), length-append (joined options) (joined tail.0)) in
-    record { whole = ?; follow = l.follow }
+    all_of area all l many
 
 -- an option among others that follow one another
 pub among :

@@ -1,5 +1,5 @@
 -- How the chain of a packet ends: at a number that isn't walked, because the packet was cut, or because it is malformed.
-use Rattle.std.specs.Prelude.{◌≡◌, ◌≢◌, ◌⊎◌, ℕ, ◌+◌, ◌/◌, ◌<◌, ◌≤◌, Bool, true, false, List, [], length, drop, take, slice_index}
+use Rattle.std.specs.Prelude.{◌≡◌, ◌≢◌, ◌⊎◌, ℕ, ◌+◌, ◌/◌, ◌<◌, Bool, true, false, List, length, drop, take, slice_index}
 use Rattle.am_opts.specs.Options.{Placed, IsLongest, joined}
 use Rattle.am_ip6.specs.Fixed.{IsFixed, claimed_length, limit_of}
 use Rattle.am_ip6.specs.Chains.{Lent, Spot, IsWalked, FitsAt, HasOptions, header_length, first_spot, spot_after}

@@ -1,9 +1,9 @@
 -- The mark that a packet carries in one kind of header (RFC 9343, section 4).
-use Rattle.std.specs.Prelude.{◌≡◌, ◌≢◌, ◌⊎◌, ℕ, ◌+◌, ◌<◌, Bool, List, [], ◌∷◌, ◌++◌, length, drop, All, slice_index}
+use Rattle.std.specs.Prelude.{◌≡◌, ◌≢◌, ◌⊎◌, ℕ, ◌+◌, ◌<◌, Bool, List, ◌∷◌, ◌++◌, length, drop, All, slice_index}
 use Rattle.am_opts.specs.Marking.{Marking, Spells}
 use Rattle.am_opts.specs.Options.{Placed, IsOptionsOf}
-use Rattle.am_ip6.specs.Chains.{Lent, HasHeaders}
-use Rattle.am_ip6.specs.Endings.{Ended, EndsSo}
+use Rattle.am_ip6.specs.Chains.{Lent}
+use Rattle.am_ip6.specs.Endings.{Ended}
 use Rattle.am_ip6.specs.Endings.Ended.{WasCut}
 
 -- an option is no mark: its bytes spell none

@@ -12,8 +12,8 @@ ghost use Rattle.am_ip6.specs.Chains.{IsWalked, FitsAt, HasOptions, Stands, firs
 ghost use Rattle.am_ip6.specs.Endings.{IsOtherVersion, LacksBytes, MayBeCut, EndsAt, EndsEarly};
 ghost use Rattle.am_ip6.specs.Shown.{lent, spot_shown, ending_shown};
 
-use am_opts::check_options;
 use crate::fixed_header::{FIXED_LENGTH, VERSION, begins_with_fixed, payload};
+use am_opts::check_options;
 
 // Hop-by-Hop Options (RFC 8200, section 4.3).
 pub(crate) const HOP_BY_HOP: u8 = 0;
@@ -103,7 +103,11 @@ fn is_other_version(bytes: &[u8]) -> bool
 }
 
 // The header at this spot and what it announces, or how the walk ends here.
-pub(crate) fn step<'a>(bytes: &'a [u8], whole: bool, spot: Announced) -> Result<(Header<'a>, Announced), Ending>
+pub(crate) fn step<'a>(
+    bytes: &'a [u8],
+    whole: bool,
+    spot: Announced,
+) -> Result<(Header<'a>, Announced), Ending>
     requires fixed { IsFixed bytes.now }
     requires within { spot.at ≤ limit_of bytes.now }
     ensures stands { IfOk result (λ r. Stands bytes.now (spot_shown spot) (lent r.0)) }
@@ -114,7 +118,11 @@ pub(crate) fn step<'a>(bytes: &'a [u8], whole: bool, spot: Announced) -> Result<
 {
     let Announced { kind, at, told_at } = spot;
     if !is_walked(spot) {
-        return Err(Ending::End { next: kind, at, told_at });
+        return Err(Ending::End {
+            next: kind,
+            at,
+            told_at,
+        });
     }
     let Some(size) = size_at(bytes, at) else {
         return Err(lacking(bytes, whole, spot));
@@ -122,12 +130,22 @@ pub(crate) fn step<'a>(bytes: &'a [u8], whole: bool, spot: Announced) -> Result<
     let header = part(bytes, at, size);
     if kind != ROUTING {
         if let Some(fault) = options_fault(header) {
-            return Err(Ending::Malformed { place: at + 2 + fault });
+            return Err(Ending::Malformed {
+                place: at + 2 + fault,
+            });
         }
     }
     Ok((
-        Header { kind, at, bytes: header },
-        Announced { kind: bytes[at], at: at + size, told_at: at },
+        Header {
+            kind,
+            at,
+            bytes: header,
+        },
+        Announced {
+            kind: bytes[at],
+            at: at + size,
+            told_at: at,
+        },
     ))
 }
 

@@ -12,8 +12,8 @@ ghost use Rattle.am_ip6.specs.Marks.{HasMark, HasNoMark, MarksHeader, IsPassed, 
 ghost use Rattle.am_ip6.specs.Shown.{lent, ending_shown};
 ghost use Rattle.am_ip6.specs.Seen.{seen_shown, IsUnlessCut, SeenIn};
 
-use am_opts::{Mark, Options, decode_mark};
 use crate::chain::{DESTINATION, Ending, HOP_BY_HOP, Header, start, step};
+use am_opts::{Mark, Options, decode_mark};
 
 /// The kind of header that marks stand in.
 #[derive(Clone, Copy, Debug, PartialEq, Eq)]
@@ -28,10 +28,7 @@ pub enum Place {
 #[derive(Clone, Copy, Debug, PartialEq, Eq)]
 pub enum Found {
     /// The first mark, and the place of its option's type in the packet.
-    Marked {
-        mark: Mark,
-        at: usize,
-    },
+    Marked { mark: Mark, at: usize },
     /// No mark.
     Unmarked,
     /// Nobody knows, since bytes that may hold one were not captured.
@@ -116,7 +113,9 @@ fn mark_in(header: Header, kind: u8) -> Option<(Mark, usize)>
         return None;
     }
     let (_, area) = header.bytes.split_at(2);
-    let (mark, at) = first_mark(area)?;
+    let Some((mark, at)) = first_mark(area) else {
+        return None;
+    };
     Some((mark, header.at + 2 + at))
 }
 
@@ -139,6 +138,8 @@ fn spelled(option: &[u8]) -> Option<Mark>
     requires { IsOption option.now }
     ensures { MatchOption result ((m : Marking) → Spells option.now m → ⊥) (λ m. Spells option.now m) }
 {
-    let (mark, _) = decode_mark(option)?;
+    let Some((mark, _)) = decode_mark(option) else {
+        return None;
+    };
     Some(mark)
 }

@@ -1,5 +1,5 @@
 -- The walk stands at a spot that each longest chain comes to, and the bytes behind it get fewer.
-use Rattle.std.proofs.Common.{ℕ, ◌≤◌, ◌-◌, List, length}
+use Rattle.std.proofs.Common.{◌≤◌, ◌-◌, List, length}
 use Rattle.am_ip6.specs.Fixed.{IsFixed, limit_of}
 use Rattle.am_ip6.specs.Chains.{Lent, IsLongestChain, first_spot}
 use Rattle.am_ip6.specs.Shown.{spot_shown}
