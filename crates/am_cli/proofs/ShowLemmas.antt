@@ -1,14 +1,14 @@
 -- A capture breaks off in one place, and what `show` leaves.
-use Rattle.std.proofs.Common.{◌≡◌, ◌≢◌, ℕ, ◌+◌, ◌<◌, ◌≤◌, false, List, [], ◌∷◌, ◌++◌, length, take, drop, Option, Some, None, refl, ap, sym, ◌∙◌, subst, inl, inr, arith}
+use Rattle.std.proofs.Common.{◌≡◌, ℕ, ◌+◌, false, List, [], ◌∷◌, length, drop, Option, Some, None, refl, ap, sym, ◌∙◌, subst, inl, inr, arith}
 use Rattle.std.proofs.Math.Seq.{take-length}
 use Rattle.am_base.specs.Shelves.{File, Told, OnTold, file_named}
-use Rattle.am_pcap.specs.Packets.{Packet, IsWhole, HoldsPackets, first_packet, behind_first}
+use Rattle.am_pcap.specs.Packets.{Packet, IsWhole, HoldsPackets, behind_first}
 use Rattle.am_cli.specs.Commands.{Show}
-use Rattle.am_cli.specs.Show.{HasBytes, BeginsPlain, BreaksOff, IsBroken, ShowRefusal, ShowsFirst, IsShowProduct, ShowsBefore, ShowsFront, ShowLeaves}
+use Rattle.am_cli.specs.Show.{IsBroken, ShowRefusal, IsShowProduct, ShowsBefore, ShowsFront, ShowLeaves}
 use Rattle.am_cli.specs.Lines.{AreLines}
-use Rattle.am_cli.specs.Stops.{Refusal, Stop}
+use Rattle.am_cli.specs.Stops.{Refusal}
 use Rattle.am_cli.specs.Stops.Refusal.{Missing, TooLong, NotPlain}
-use Rattle.am_cli.specs.Stops.Stop.{NoCommand, Refused, ReadFault, WriteFault, NoMemory}
+use Rattle.am_cli.specs.Stops.Stop.{Refused, NoMemory}
 
 -- no bytes hold no whole record
 none_in_nothing : (bytes : List ℕ) → bytes ≡ [] → IsWhole false bytes → ⊥
@@ -34,15 +34,15 @@ packets_once bytes (p ∷ ps) (q ∷ qs) r s h k no_r no_s =
 broken_once : (bytes : List ℕ) (j k : ℕ) (ps qs : List Packet) → IsBroken bytes j ps → IsBroken bytes k qs → j ≡ k
 broken_once bytes j k ps qs a b =
     elim a [
-      inl p ↦ elim b [
-        inl q ↦ p.0 ∙ sym q.0
-      | inr q ↦ absurd (p.2 q.1.begins.head)
+      | inl p ↦ elim b [
+        | inl q ↦ p.0 ∙ sym q.0
+        | inr q ↦ absurd (p.2 q.1.begins.head)
       ]
-    | inr p ↦ elim b [
-        inl q ↦ absurd (q.2 p.1.begins.head)
-      | inr q ↦
-        let same = packets_once (drop 24 bytes) ps qs p.1.rest q.1.rest p.1.begins.records q.1.begins.records p.1.no_record q.1.no_record in
-        p.0 ∙ ap (λ xs. length xs + 1) same.0 ∙ sym q.0
+      | inr p ↦ elim b [
+        | inl q ↦ absurd (q.2 p.1.begins.head)
+        | inr q ↦
+            let same = packets_once (drop 24 bytes) ps qs p.1.rest q.1.rest p.1.begins.records q.1.begins.records p.1.no_record q.1.no_record in
+            p.0 ∙ ap (λ xs. length xs + 1) same.0 ∙ sym q.0
       ]
     ]
 
@@ -77,25 +77,30 @@ show_not_refused files s text (NotPlain a k) t q =
     let e : q.1.0 ≡ t.bytes = one_file files s.file q.1.0 t.bytes q.1.2.there t.file.there in
     let broken : IsBroken t.bytes k q.1.1 = subst (λ bytes. IsBroken bytes k q.1.1) e q.1.3 in
     elim broken [
-      inl b ↦ absurd (b.2 t.capture.head)
-    | inr b ↦
-      let same = packets_once (drop 24 t.bytes) t.packets q.1.1 [] b.1.rest t.capture.records b.1.begins.records (none_in_nothing [] refl) b.1.no_record in
-      b.1.more (sym same.1)
+      | inl b ↦ absurd (b.2 t.capture.head)
+      | inr b ↦
+          let same = packets_once (drop 24 t.bytes) t.packets q.1.1 [] b.1.rest t.capture.records b.1.begins.records (none_in_nothing [] refl) b.1.no_record in
+          b.1.more (sym same.1)
     ]
 
 -- the lines before a refused record are a front of what is printed of the first records
 before_is_front : (files : List File) (s : Show) (number : ℕ) (printed : List ℕ) → ShowsBefore files s number printed → ShowsFront files s printed
 before_is_front files s number printed h =
     elim h.broken [
-      inl b ↦ inl (subst (λ ps. AreLines 1 ps printed) b.1 h.lines)
-    | inr b ↦ inr (printed, length printed, record {
-        bytes = h.bytes;
-        packets = h.packets;
-        rest = b.1.rest;
-        file = h.file;
-        begins = b.1.begins;
-        lines = h.lines;
-      }, sym (take-length printed))
+      | inl b ↦ inl (subst (λ ps. AreLines 1 ps printed) b.1 h.lines)
+      | inr b ↦ inr (
+        printed,
+        length printed,
+        record {
+          bytes = h.bytes;
+          packets = h.packets;
+          rest = b.1.rest;
+          file = h.file;
+          begins = b.1.begins;
+          lines = h.lines;
+        },
+        sym (take-length printed),
+      )
     ]
 
 -- where nothing was printed

@@ -1,10 +1,16 @@
 -- One more record shown: its line behind those before it.
-use Rattle.std.proofs.Common.{◌≡◌, ℕ, ◌+◌, ◌≤◌, Bool, List, [], ◌∷◌, ◌++◌, length, take, Option, None, Some, refl, ap, sym, ◌∙◌, subst, arith, append_assoc, codes}
+use Rattle.std.proofs.Common.{◌≡◌, ℕ, ◌+◌, ◌≤◌, Bool, List, [], ◌∷◌, ◌++◌, length, take, drop, inl, inr, Option, None, Some, refl, ap, sym, ◌∙◌, subst, arith, append_assoc, codes}
 use Rattle.std.proofs.Math.Seq.{take-append-add}
 use Rattle.std.proofs.lemmas.List.{append-nil}
 use Rattle.std.specs.Io.KnownBytes.{append_known}
 use Rattle.am_pcap.specs.Packets.{Packet, IsWhole, HoldsPackets, first_packet, behind_first}
-use Rattle.am_cli.specs.Lines.{IsLine, AreLines}
+use Rattle.std.specs.Prelude.{true, false, nat_le, IsTrue}
+use Rattle.std.proofs.lemmas.Bool.Decides.{leb_tells}
+use Rattle.std.proofs.lemmas.Bool.{false≢true}
+use Rattle.am_pcap.specs.Frames.{VersionSays}
+use Rattle.am_pcap.specs.declared.frame.Frame.TheVariants.{Ip6}
+use Rattle.am_cli.specs.Showing.{AddsFrame, AddsPacket}
+use Rattle.am_cli.specs.Lines.{IsLine, AreLines, IsPacketText, is_whole}
 
 -- whole records, and one more behind them
 pub HoldsPackets-more :
@@ -68,12 +74,46 @@ packet_pieces l0 l1 l2 l3 l4 l5 l6 l7 word headers ending space first second e1 
 
 -- the pieces of a line
 pub line_of_pieces :
-    (l0 l1 l2 l3 number reading captured original held : List ℕ)
+    (l0 l1 l2 l3 start held : List ℕ)
     → l0 ≡ []
-    → l1 ≡ l0 ++ (number ++ 32 ∷ (reading ++ 32 ∷ (captured ++ 32 ∷ (original ++ 32 ∷ []))))
+    → l1 ≡ l0 ++ start
     → l2 ≡ l1 ++ held
     → l3 ≡ l2 ++ 10 ∷ []
-    → l3 ≡ number ++ codes " " ++ reading ++ codes " " ++ captured ++ codes " " ++ original ++ codes " " ++ held ++ codes "\n"
-line_of_pieces l0 l1 l2 l3 number reading captured original held e0 e1 e2 e3 =
-    e3 ∙ ap (λ x. x ++ 10 ∷ []) (e2 ∙ ap (λ x. x ++ held) (e1 ∙ ap (λ x. x ++ (number ++ 32 ∷ (reading ++ 32 ∷ (captured ++ 32 ∷ (original ++ 32 ∷ []))))) e0))
-    ∙ simp append_assoc
+    → l3 ≡ start ++ held ++ codes "\n"
+line_of_pieces l0 l1 l2 l3 start held e0 e1 e2 e3 =
+    e3 ∙ ap (λ x. x ++ 10 ∷ []) (e2 ∙ ap (λ x. x ++ held) (e1 ∙ ap (λ x. x ++ start) e0))
+
+-- a test that says whether all bytes were captured
+pub whole_is : (b : Bool) (m n : ℕ) → (IsTrue b → m ≤ n) × (m ≤ n → IsTrue b) → b ≡ nat_le m n
+whole_is true m n h = elim (leb_tells m n) [ inl t ↦ sym t.0 | inr f ↦ let le : m ≤ n = h.0 refl in absurd (omega arith) ]
+whole_is false m n h = elim (leb_tells m n) [ inl t ↦ absurd (false≢true (h.1 t.1)) | inr f ↦ sym f.0 ]
+
+-- a line grew by what a record holds, where it grew by its packet
+pub frame_of_packet :
+    (p : Packet) (at : ℕ) (whole : Bool) (packet old new : List ℕ)
+    → whole ≡ is_whole p
+    → packet ≡ drop at p.bytes
+    → VersionSays p.bytes whole (Ip6 at)
+    → AddsPacket packet whole old new
+    → AddsFrame p old new
+frame_of_packet p at whole packet old new same rest says added = record {
+  frame = Ip6 at;
+  held = added.held;
+  framed = subst (λ w. VersionSays p.bytes w (Ip6 at)) same says;
+  text = subst (λ w. IsPacketText (drop at p.bytes) w added.held) same (subst (λ x. IsPacketText x whole added.held) rest added.text);
+  added = added.added;
+}
+
+-- the lines of the records so far, and the line that was made of the next
+pub lines_more :
+    (ps : List Packet) (text : List ℕ) (number last : ℕ) (p q : Packet) (line bytes : List ℕ)
+    → AreLines 1 ps text
+    → number ≡ length ps + 1
+    → last ≡ number
+    → p ≡ q
+    → bytes ≡ line
+    → IsLine last p line
+    → AreLines 1 (ps ++ q ∷ []) (text ++ bytes)
+lines_more ps text number last p q line bytes lines counted is same made l =
+    AreLines-more 1 ps text last q bytes lines (omega arith)
+    (subst (λ x. IsLine last x bytes) same (subst (λ x. IsLine last p x) (sym made) l))

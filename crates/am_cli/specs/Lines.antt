@@ -1,6 +1,6 @@
 -- The line that `show` prints of a record.
 use Rattle.std.specs.Prelude.{◌≡◌, ℕ, ◌+◌, Bool, false, nat_le, List, [], ◌∷◌, ◌++◌, length, drop, flat_map, codes, decimal}
-use Rattle.am_opts.specs.Marking.{Marking, bit}
+use Rattle.am_opts.specs.Marking.{bit}
 use Rattle.am_ip6.specs.Chains.{Lent, HasHeaders}
 use Rattle.am_ip6.specs.Endings.{Ended, EndsSo}
 use Rattle.am_ip6.specs.Endings.Ended.{AtNumber, WasCut, IsMalformed}

@@ -1,5 +1,5 @@
 -- What `show` prints, and which refusal of its file comes first.
-use Rattle.std.specs.Prelude.{◌≡◌, ◌≢◌, ◌⊎◌, ℕ, ◌+◌, ◌<◌, ◌≤◌, false, List, [], ◌∷◌, length, take, drop, Option, Some, None, ⊤}
+use Rattle.std.specs.Prelude.{◌≡◌, ◌≢◌, ◌⊎◌, ℕ, ◌+◌, ◌<◌, ◌≤◌, false, List, [], length, take, drop, Option, Some, None}
 use Rattle.am_base.specs.Shelves.{File, Told, OnTold, file_named}
 use Rattle.am_pcap.specs.Packets.{Packet, IsWhole, HoldsPackets}
 use Rattle.am_pcap.specs.Plain.{HasPlainHead}

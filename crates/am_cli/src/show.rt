@@ -110,13 +110,29 @@ fn show_line(line: &mut String, packet: &Record<'_>) -> Result<(), AllocError>
     ensures { OnOk result (IsLine packet.now.number (packet_shown packet.now) (string_bytes line.new)) }
 {
     line.clear();
-    let number = packet.number;
-    let reading = packet.reading(PLAIN);
-    let captured = packet.bytes.len();
-    let original = packet.original;
-    write!(line, "{number} {reading} {captured} {original} ")?;
+    push_record(
+        line,
+        packet.number,
+        packet.reading(PLAIN),
+        packet.bytes.len(),
+        packet.original,
+    )?;
     push_frame(line, packet)?;
-    line.push_str("\n")
+    line.push_str("\n")?;
+    Ok(())
+}
+
+// Adds what stands first: the record's number, its reading, how many bytes were captured and how many the packet had.
+fn push_record(
+    line: &mut String,
+    number: u64,
+    reading: u64,
+    captured: usize,
+    original: u32,
+) -> Result<(), AllocError>
+    ensures { OnOk result (string_bytes line.new ≡ string_bytes line.old ++ (decimal number ++ codes " " ++ decimal reading ++ codes " " ++ decimal captured ++ codes " " ++ decimal original ++ codes " ")) }
+{
+    write!(line, "{number} {reading} {captured} {original} ")
 }
 
 // Adds what the record holds.

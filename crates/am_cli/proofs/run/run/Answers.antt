@@ -28,5 +28,5 @@ returns-in-Err-clause-refused g c =
 pub returns-in-Err-clause-complete : goal.returns-in-Err-clause-complete
 returns-in-Err-clause-complete g c =
     stopped_completes _ _ c.tell.ensures.0 _ c.tell.ensures.1 (told_borne_out _ _ (stop_shown c.in-Err.stop) _ c.tell.ensures.2 c.in-Err.ensures.stopped)
-        (cause_told (stop_shown c.in-Err.stop) c.tell.ensures.0 _ 5 c.tell.ensures.2 c.tell.ensures.1 (λ e. absurd (omega arith)) c.in-Err.ensures.read_fault)
-        (cause_told (stop_shown c.in-Err.stop) c.tell.ensures.0 _ 6 c.tell.ensures.2 c.tell.ensures.1 (λ e. absurd (omega arith)) c.in-Err.ensures.write_fault)
+    (cause_told (stop_shown c.in-Err.stop) c.tell.ensures.0 _ 5 c.tell.ensures.2 c.tell.ensures.1 (λ e. absurd (omega arith)) c.in-Err.ensures.read_fault)
+    (cause_told (stop_shown c.in-Err.stop) c.tell.ensures.0 _ 6 c.tell.ensures.2 c.tell.ensures.1 (λ e. absurd (omega arith)) c.in-Err.ensures.write_fault)

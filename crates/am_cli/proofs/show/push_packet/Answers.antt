@@ -1,4 +1,4 @@
-use Rattle.std.proofs.Common.{string_bytes, refl, codes}
+use Rattle.std.proofs.Common.{refl, codes}
 use Rattle.std.specs.Prelude.{flat_map}
 use Rattle.am_ip6.specs.Shown.{ending_shown}
 use Rattle.am_ip6.specs.Seen.{seen_shown}
@@ -32,9 +32,3 @@ returns c =
           c.in_ok-push_found.ensures c.in_ok-push_str-3.ensures.bytes e;
     })
     c.push_found-2.ensures
-
-pub find_mark-requires : goal.find_mark-requires
-find_mark-requires c = ?
-
-pub find_mark-requires-2 : goal.find_mark-requires-2
-find_mark-requires-2 c = ?
