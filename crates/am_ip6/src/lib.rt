@@ -4,6 +4,8 @@ mod chain;
 mod fixed_header;
 mod headers;
 mod marks;
+#[cfg(test)]
+mod tests;
 
 pub use chain::{Ending, Header};
 pub use fixed_header::Fixed;
