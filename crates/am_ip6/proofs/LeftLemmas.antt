@@ -11,19 +11,19 @@ use Rattle.am_ip6.specs.Left.{header_at, walked_at, fits_at, has_options, stands
 use Rattle.am_ip6.proofs.ChainLemmas.{longest-if_stopped, longest-cons, longest-none, longest-unique, ends-nothing}
 use Rattle.am_ip6.specs.Endings.{Ended, EndsAt}
 
-walked-true : (s : Spot) → walked_at s ≡ true → IsWalked s
+pub walked-true : (s : Spot) → walked_at s ≡ true → IsWalked s
 unfolding walked_at
 walked-true s e = grind (arith, nat_tests)
 
-walked-false : (s : Spot) → walked_at s ≡ false → IsWalked s → ⊥
+pub walked-false : (s : Spot) → walked_at s ≡ false → IsWalked s → ⊥
 unfolding walked_at
 walked-false s e w = grind (arith, nat_tests)
 
-fits-true : (b : List ℕ) (at : ℕ) → fits_at b at ≡ true → FitsAt b at
+pub fits-true : (b : List ℕ) (at : ℕ) → fits_at b at ≡ true → FitsAt b at
 unfolding fits_at
 fits-true b at e = grind (arith, nat_tests)
 
-fits-false : (b : List ℕ) (at : ℕ) → fits_at b at ≡ false → FitsAt b at → ⊥
+pub fits-false : (b : List ℕ) (at : ℕ) → fits_at b at ≡ false → FitsAt b at → ⊥
 unfolding fits_at
 fits-false b at e f = grind (arith, nat_tests, f.first_two, f.whole)
 

@@ -4,3 +4,4 @@ pub mod BadOptions
 pub mod LeftLemmas
 pub mod MarkLemmas
 pub mod SeenLemmas
+pub mod Exists

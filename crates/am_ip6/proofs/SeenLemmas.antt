@@ -28,7 +28,8 @@ marks-chain kind b first s h hs mark at r here of_kind marked =
       marked = marked;
     }
 
-not_both : (w : Bool) → w ≡ false → w ≡ true → ⊥
+-- captured whole or not
+pub not_both : (w : Bool) → w ≡ false → w ≡ true → ⊥
 not_both true p q = cc
 not_both false p q = cc
 

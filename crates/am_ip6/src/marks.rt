@@ -10,7 +10,7 @@ ghost use Rattle.am_ip6.specs.Chains.{Lent, HasHeaders, HasOptions};
 ghost use Rattle.am_ip6.specs.Endings.{Ended, EndsSo};
 ghost use Rattle.am_ip6.specs.Marks.{HasMark, HasNoMark, MarksHeader, IsPassed, SeenInHopByHop, SeenInDestination};
 ghost use Rattle.am_ip6.specs.Shown.{lent, ending_shown};
-ghost use Rattle.am_ip6.specs.Seen.{seen_shown, IsUnlessCut, SeenIn};
+ghost use Rattle.am_ip6.specs.Seen.{seen_shown, IsUnlessCut, SeenIn, IsSeen};
 
 use crate::chain::{DESTINATION, Ending, HOP_BY_HOP, Header, start, step};
 use am_opts::{Mark, Options, decode_mark};
@@ -39,7 +39,10 @@ pub enum Found {
 ///
 /// An option of type 0x12 and a length other than 4 is no mark.
 pub fn find_mark(bytes: &[u8], whole: bool, place: Place) -> Found
-    ensures { (hs : List Lent) (ended : Ended) → HasHeaders bytes.now hs → EndsSo bytes.now whole hs ended
+    ensures seen { IsSeen bytes.now whole place (seen_shown result) }
+
+    // Whatever the headers and the ending are, they show this.
+    ensures each { (hs : List Lent) (ended : Ended) → HasHeaders bytes.now hs → EndsSo bytes.now whole hs ended
         → SeenIn place bytes.now whole hs ended (seen_shown result) }
 {
     match place {
