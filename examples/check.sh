@@ -21,24 +21,31 @@ tally() {
     fi
 }
 
-# expect NAME STATUS OUTPUT LINE WORD..: runs the program with these words in the present folder. OUTPUT and LINE are all
-# that it writes to its two streams, each without the last line feed.
-expect() {
+# expect_file NAME STATUS FILE LINE WORD..: runs the program with these words in the present folder. The bytes of FILE and
+# LINE are all that it writes to its two streams; LINE stands without the last line feed.
+expect_file() {
     local name=$1 status=$2 output=$3 line=$4 got
     shift 4
     "$altmark" "$@" </dev/null >"$scratch/stdout" 2>"$scratch/stderr"
     got=$?
-    if [[ -n $output ]]; then printf '%s\n' "$output"; fi >"$scratch/stdout.wanted"
     if [[ -n $line ]]; then printf '%s\n' "$line"; fi >"$scratch/stderr.wanted"
     if [[ $got != "$status" ]]; then
         tally "$name" no "status $got for $status"
-    elif ! cmp -s "$scratch/stdout" "$scratch/stdout.wanted"; then
-        tally "$name" no "standard output '$(head -c 200 "$scratch/stdout" | tr '\n' '|')'"
+    elif ! cmp -s "$scratch/stdout" "$output"; then
+        tally "$name" no "standard output '$(diff "$scratch/stdout" "$output" | head -c 200 | tr '\n' '|')'"
     elif ! cmp -s "$scratch/stderr" "$scratch/stderr.wanted"; then
         tally "$name" no "standard error '$(head -c 200 "$scratch/stderr" | tr '\n' '|')'"
     else
         tally "$name" yes
     fi
+}
+
+# expect NAME STATUS OUTPUT LINE WORD..: the same, with OUTPUT in the place of a file, without the last line feed.
+expect() {
+    local name=$1 status=$2 output=$3 line=$4
+    shift 4
+    if [[ -n $output ]]; then printf '%s\n' "$output"; fi >"$scratch/stdout.wanted"
+    expect_file "$name" "$status" "$scratch/stdout.wanted" "$line" "$@"
 }
 
 # refuses NAME WORD..: the words are no command
@@ -65,7 +72,7 @@ fi
 # The files are those that the script beside them writes.
 python3 "$here/make.py" "$scratch/made"
 (cd -- "$scratch/made" && find . -type f | LC_ALL=C sort) >"$scratch/made.list"
-(cd -- "$here" && find ./two ./bad -type f ! -name README.md | LC_ALL=C sort) >"$scratch/kept.list"
+(cd -- "$here" && find ./two ./chains ./bad -type f ! -name README.md | LC_ALL=C sort) >"$scratch/kept.list"
 if cmp -s "$scratch/made.list" "$scratch/kept.list"; then tally 'names of the example files' yes; else tally 'names of the example files' no; fi
 while IFS= read -r name; do
     if cmp -s -- "$scratch/made/$name" "$here/$name"; then tally "bytes of $name" yes; else tally "bytes of $name" no; fi
@@ -81,6 +88,17 @@ expect 'the longest block' 0 $head_line$'\n0,3,3,0' '' link 1099511627776 0 7456
 head -c 24 u.pcap >"$scratch/head.pcap"
 expect 'captures without records' 0 "$head_line" '' link 10000000000 0 74565 "$scratch/head.pcap" "$scratch/head.pcap"
 expect 'nothing left' 0 $head_line$'\n0,2,0,2\n1,3,0,3\n2,1,0,1' '' link 10000000000 0 74565 u.pcap "$scratch/head.pcap"
+
+# What `show` prints of each record. `link` wants every record marked, and `show` wants none.
+cd -- "$top" || exit 1
+expect_file 'show, from the top' 0 "$here/two/u.txt" '' show examples/two/u.pcap
+expect_file 'show, chains from the top' 0 "$here/chains/chains.txt" '' show examples/chains/chains.pcap
+cd -- "$here/chains" || exit 1
+expect_file 'show chains' 0 chains.txt '' show chains.pcap
+expect_file 'show v.pcap' 0 ../two/v.txt '' show ../two/v.pcap
+expect 'show a capture without records' 0 '' '' show "$scratch/head.pcap"
+expect 'chains as UP' 3 '' 'altmark: chains.pcap: capture is not plain: record 1' link 10000000000 0 74565 chains.pcap ../two/v.pcap
+cd -- "$here/two" || exit 1
 
 # Words that are no command.
 refuses 'no words'
@@ -107,6 +125,19 @@ refuses 'a name of 256 bytes' link 10000000000 0 74565 "a$long" v.pcap
 refuses 'a name with a line feed' link 10000000000 0 74565 $'u\n.pcap' v.pcap
 refuses 'a name with U+001F' link 10000000000 0 74565 u.pcap $'v\x1f.pcap'
 refuses 'a name with U+007F' link 10000000000 0 74565 u.pcap $'v\x7f.pcap'
+for words in show 'show u.pcap v.pcap' 'show 1 u.pcap' 'Show u.pcap' 'shows u.pcap' 'u.pcap show' 'link u.pcap'; do
+    read -ra split <<<"$words"
+    refuses "'$words'" "${split[@]}"
+done
+refuses 'show, an empty name' show ''
+refuses 'show, a word behind the name' show u.pcap ''
+refuses 'show, a name of 256 bytes' show "a$long"
+refuses 'show, a name with a line feed' show $'u\n.pcap'
+refuses 'show, a name with U+001F' show $'u\x1f.pcap'
+refuses 'show, a name with U+007F' show $'u\x7f.pcap'
+expect 'show, a word that is no text' 2 '' '' show $'u\xff.pcap'
+expect 'show, a name of 255 bytes' 4 '' "altmark: $long: missing" show "$long"
+expect 'show, a name that begins with a dash' 4 '' 'altmark: --help: missing' show --help
 expect 'a word that is no text' 2 '' '' link 10000000000 0 74565 $'u\xff.pcap' v.pcap
 expect 'a name of 255 bytes' 4 '' "altmark: $long: missing" link 10000000000 0 74565 "$long" v.pcap
 expect 'the largest numbers' 0 "$head_line" '' link 1099511627776 1099511627776 1048575 u.pcap v.pcap
@@ -120,6 +151,19 @@ for file in *.pcap; do
     expect "bad/$file as DOWN" 3 '' "$line" link 10000000000 0 74565 "$good" "$file"
     expect "bad/$file before a DOWN that is missing" 3 '' "$line" link 10000000000 0 74565 "$file" missing.pcap
 done
+
+# `show` over the same files. Beside each stands all that it writes: the lines of records, then, where it refuses, why.
+for file in *.pcap; do
+    grep -v '^altmark: ' "${file%.pcap}.shown" >"$scratch/printed"
+    line=$(grep '^altmark: ' "${file%.pcap}.shown")
+    expect_file "show bad/$file" "$([[ -n $line ]] && echo 3 || echo 0)" "$scratch/printed" "$line" show "$file"
+done
+
+# Files that aren't there, or can't be read.
+expect 'show, missing' 4 '' 'altmark: missing.pcap: missing' show missing.pcap
+expect 'show, in a folder that is missing' 4 '' 'altmark: none/u.pcap: missing' show none/u.pcap
+expect 'show, a folder' 5 '' 'altmark: ../two: read fault' show ../two
+expect 'show, a file as a folder' 5 '' 'altmark: empty.pcap/u: read fault' show empty.pcap/u
 expect 'UP is missing' 4 '' 'altmark: missing.pcap: missing' link 10000000000 0 74565 missing.pcap "$good"
 expect 'UP is missing before a bad DOWN' 4 '' 'altmark: missing.pcap: missing' link 10000000000 0 74565 missing.pcap empty.pcap
 expect 'DOWN is missing' 4 '' 'altmark: missing.pcap: missing' link 10000000000 0 74565 "$good" missing.pcap
@@ -150,6 +194,11 @@ write("file-of-more.pcap", head, one * count, padded(rest + 1))
 write("zeros-of-most.pcap", bytes(16777216))
 write("zeros-of-more.pcap", bytes(16777217))
 open("count", "w").write(str(count + 1))
+
+shown = "1000000000 48 48 ip6 0:8,=59 74565/0/1 -\n"
+open("record-of-most.txt", "w").write(f"1 2000000000 262144 262144 ip6 0:8,=59 74565/0/1 -\n2 {shown}")
+open("file-of-most.txt", "w").writelines(f"{k} {shown}" for k in range(1, count + 1))
+open("file-of-most.txt", "a").write(f"{count + 1} 2000000000 {rest} {rest} ip6 0:8,=59 74565/0/1 -\n")
 END
 count=$(<count)
 expect 'a record of 262144 bytes' 0 $head_line$'\n0,2,2,0' '' link 10000000000 0 74565 record-of-most.pcap record-of-most.pcap
@@ -157,6 +206,11 @@ expect 'a record of 262145 bytes' 3 '' 'altmark: record-of-more.pcap: capture is
 expect 'a file of 16777216 bytes' 0 $head_line$'\n'"0,$count,$count,0" '' link 10000000000 0 74565 file-of-most.pcap file-of-most.pcap
 expect 'a file of 16777217 bytes' 3 '' 'altmark: file-of-more.pcap: too long' link 10000000000 0 74565 file-of-more.pcap missing.pcap
 expect 'a file of 16777217 bytes as DOWN' 3 '' 'altmark: file-of-more.pcap: too long' link 10000000000 0 74565 "${two[0]}" file-of-more.pcap
+expect_file 'show, a record of 262144 bytes' 0 record-of-most.txt '' show record-of-most.pcap
+expect 'show, a record of 262145 bytes' 3 '' 'altmark: record-of-more.pcap: capture is not plain: record 1' show record-of-more.pcap
+expect_file 'show, a file of 16777216 bytes' 0 file-of-most.txt '' show file-of-most.pcap
+expect 'show, a file of 16777217 bytes' 3 '' 'altmark: file-of-more.pcap: too long' show file-of-more.pcap
+expect 'show, 16777217 zeros' 3 '' 'altmark: zeros-of-more.pcap: too long' show zeros-of-more.pcap
 expect '16777216 zeros' 3 '' 'altmark: zeros-of-most.pcap: capture is not plain: record 0' link 10000000000 0 74565 zeros-of-most.pcap missing.pcap
 expect '16777217 zeros' 3 '' 'altmark: zeros-of-more.pcap: too long' link 10000000000 0 74565 zeros-of-more.pcap missing.pcap
 
@@ -165,6 +219,18 @@ if [[ -c /dev/full && -w /dev/full ]]; then
     "$altmark" link 10000000000 0 74565 "${two[@]}" </dev/null >/dev/full 2>stderr
     got=$?
     if [[ $got == 6 && $(<stderr) == 'altmark: write fault' ]]; then tally 'output to a full device' yes; else tally 'output to a full device' no "status $got"; fi
+    # `show` writes the line of a record before it looks at the next, so a full device comes before what is wrong further on.
+    # NAME STATUS LINE FILE, where LINE is all that standard error has.
+    show_to_full() {
+        "$altmark" show "$4" </dev/null >/dev/full 2>stderr
+        got=$?
+        if [[ $got == "$2" && $(<stderr) == "$3" ]]; then tally "$1" yes; else tally "$1" no "status $got, '$(head -c 200 stderr)'"; fi
+    }
+    show_to_full 'show to a full device' 6 'altmark: write fault' "$here/chains/chains.pcap"
+    show_to_full 'show to a full device, refused at record 2' 6 'altmark: write fault' "$here/bad/record-too-long.pcap"
+    show_to_full 'show to a full device, refused at the file header' 3 'altmark: zeros-of-most.pcap: capture is not plain: record 0' zeros-of-most.pcap
+    show_to_full 'show to a full device, refused at record 1' 3 'altmark: record-of-more.pcap: capture is not plain: record 1' record-of-more.pcap
+    show_to_full 'show to a full device, no records' 0 '' "$scratch/head.pcap"
     "$altmark" </dev/null >stdout 2>/dev/full
     got=$?
     if [[ $got == 2 && ! -s stdout ]]; then tally 'no words, with a full standard error' yes; else tally 'no words, with a full standard error' no "status $got"; fi
@@ -178,11 +244,14 @@ fi
 "$altmark" link 10000000000 0 74565 "${two[@]}" </dev/null >stdout 2>&-
 got=$?
 if [[ $got == 0 && $(<stdout) == "$table" ]]; then tally 'standard error closed' yes; else tally 'standard error closed' no "status $got"; fi
+"$altmark" show "$here/bad/record-header-cut.pcap" </dev/null >stdout 2>&-
+got=$?
+if [[ $got == 3 ]] && head -n 2 "$here/two/u.txt" | cmp -s - stdout; then tally 'show, refused, with standard error closed' yes; else tally 'show, refused, with standard error closed' no "status $got"; fi
 "$altmark" link 10000000000 0 74565 missing.pcap "${two[1]}" </dev/null >stdout 2>&-
 got=$?
 if [[ $got == 4 && ! -s stdout ]]; then tally 'a missing file, with standard error closed' yes; else tally 'a missing file, with standard error closed' no "status $got"; fi
 
-# Each of the two captures cut at each of its lengths, as UP and as DOWN.
+# Each of the two captures cut at each of its lengths, as UP, as DOWN, and shown.
 exec 4>&1
 cut_counts=$(python3 "$here/cuts.py" "$altmark" "${two[@]}" 3>&1 1>&4)
 if [[ $cut_counts =~ ^([0-9]+)\ ([0-9]+)$ ]]; then

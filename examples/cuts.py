@@ -1,9 +1,10 @@
 #!/usr/bin/env python3
-"""Runs the program over each capture of two, cut at each of its lengths, in both places beside the other, whole.
+"""Runs the program over each capture of two, cut at each of its lengths: `link` with it in both places beside the other,
+whole, and `show`.
 
     cuts.py ALTMARK U V
 
-A line on standard output for each of the first runs that went wrong; the counts of runs and of wrong ones go to
+Beside U and V, which are .pcap files, stands what `show` prints of them whole, as .txt. A line on standard output for each of the first runs that went wrong; the counts of runs and of wrong ones go to
 descriptor 3.
 """
 import os
@@ -25,13 +26,19 @@ def wanted(length):
     return 0, None
 
 
-def run(altmark, names, folder):
-    words = [altmark, "link", "10000000000", "0", "74565", *names]
-    return subprocess.run(words, cwd=folder, stdin=subprocess.DEVNULL, capture_output=True)
+def read(name):
+    with open(name, "rb") as file:
+        return file.read()
+
+
+def first(lines, length):
+    """What `show` prints of a capture of this length: the lines of its whole records."""
+    return b"".join(lines[: max(0, length - HEAD) // RECORD])
 
 
 def main(altmark, u, v):
-    whole = {"u.pcap": open(u, "rb").read(), "v.pcap": open(v, "rb").read()}
+    whole = {"u.pcap": read(u), "v.pcap": read(v)}
+    shown = {"u.pcap": read(u[:-5] + ".txt"), "v.pcap": read(v[:-5] + ".txt")}
     jobs = []
     with tempfile.TemporaryDirectory() as folder:
         for name, bytes_ in whole.items():
@@ -42,17 +49,22 @@ def main(altmark, u, v):
                 with open(os.path.join(folder, cut), "wb") as out:
                     out.write(bytes_[:length])
                 other = "v.pcap" if name == "u.pcap" else "u.pcap"
-                jobs.append((cut, length, (cut, other)))
-                jobs.append((cut, length, (other, cut)))
+                lines = first(shown[name].splitlines(keepends=True), length)
+                jobs.append((cut, length, ["link", "10000000000", "0", "74565", cut, other], None))
+                jobs.append((cut, length, ["link", "10000000000", "0", "74565", other, cut], None))
+                jobs.append((cut, length, ["show", cut], lines))
 
         def judge(job):
-            cut, length, names = job
-            done = run(altmark, names, folder)
+            cut, length, words, lines = job
+            done = subprocess.run([altmark, *words], cwd=folder, stdin=subprocess.DEVNULL, capture_output=True)
             status, number = wanted(length)
             line = f"altmark: {cut}: capture is not plain: record {number}\n".encode() if status else b""
             right = done.returncode == status and done.stderr == line
-            right = right and (done.stdout == b"" if status else done.stdout.startswith(b"block,in,out,lost\n"))
-            return None if right else f"failed: link {' '.join(names)}: status {done.returncode}, {done.stderr!r}"
+            if lines is not None:
+                right = right and done.stdout == lines
+            else:
+                right = right and (done.stdout == b"" if status else done.stdout.startswith(b"block,in,out,lost\n"))
+            return None if right else f"failed: {' '.join(words)}: status {done.returncode}, {done.stderr!r}"
 
         with ThreadPoolExecutor(os.cpu_count() or 1) as pool:
             wrong = [text for text in pool.map(judge, jobs) if text]
