@@ -22,8 +22,8 @@ returns c =
         destination = seen_shown c.find_mark-2.result;
         has = has;
         ends = ends;
-        in_hop = c.find_mark.ensures hs (ending_shown c.walk_ending.result) has ends;
-        in_destination = c.find_mark-2.ensures hs (ending_shown c.walk_ending.result) has ends;
+        in_hop = c.find_mark.ensures.each hs (ending_shown c.walk_ending.result) has ends;
+        in_destination = c.find_mark-2.ensures.each hs (ending_shown c.walk_ending.result) has ends;
         shown = refl;
       };
       added = packet_pieces _ _ _ _ _ _ _ _ (codes "ip6 ") (flat_map header_text hs) (ending_text (ending_shown c.walk_ending.result)) (codes " ")
