@@ -18,8 +18,9 @@ pub returns-then-end-area-clause-refused : goal.returns-then-end-area-clause-ref
 returns-then-end-area-clause-refused c options is =
     let all = ap left (sym c.into_iter-option-iterator.ensures.into_iter_gives)
     ∙ yields_all placed left _ c.loop-option.yielded _ c.loop-option.yielded_by c.in-None.ensures.steps.0 in
+    let size = ap (λ (os : List Placed). length (joined os)) all in
     none_of c.args.area.now _ c.over-option-items.ensures.longest
-    (λ e. c.if-end-area.true (c.loop-option.invariant.3 ∙ sym (ap (λ (os : List Placed). length (joined os)) all) ∙ e)) options is
+    (λ e. omega (arith, e, size, c.loop-option.invariant.3)) options is
 
 pub returns-then-end-area-clause-whole : goal.returns-then-end-area-clause-whole
 returns-then-end-area-clause-whole c options is = absurd (returns-then-end-area-clause-refused c options is)
@@ -27,9 +28,7 @@ returns-then-end-area-clause-whole c options is = absurd (returns-then-end-area-
 pub returns-clause-count : goal.returns-clause-count
 returns-clause-count c =
     let all = ap left (sym c.into_iter-option-iterator.ensures.into_iter_gives)
-    ∙ yields_all placed left _ c.loop-option.yielded _ c.loop-option.yielded_by c.in-None.ensures.steps.0 in (
-      left c.over-option-items.result,
-      all_of c.args.area.now _ c.over-option-items.ensures.longest
-          (ap (λ (os : List Placed). length (joined os)) all ∙ sym c.loop-option.invariant.3 ∙ c.if-end-area.false),
-      c.loop-option.invariant.2 ∙ sym (length-map c.loop-option.yielded placed) ∙ sym (ap length all),
-    )
+    ∙ yields_all placed left _ c.loop-option.yielded _ c.loop-option.yielded_by c.in-None.ensures.steps.0 in
+    let size = ap (λ (os : List Placed). length (joined os)) all in
+    let whole = all_of c.args.area.now _ c.over-option-items.ensures.longest (omega (arith, size, c.loop-option.invariant.3)) in
+    (left c.over-option-items.result, whole, c.loop-option.invariant.2 ∙ sym (length-map c.loop-option.yielded placed) ∙ sym (ap length all))
