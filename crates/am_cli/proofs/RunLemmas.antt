@@ -1,7 +1,7 @@
 -- What the words say, what a command prints and what is refused are one.
 use Rattle.std.proofs.Common.{◌≡◌, ℕ, List, length, Option, Some, None, ap, sym, ◌∙◌, subst, inl, inr, arith}
 use Rattle.std.specs.Prelude.{◌⊎◌, Result, Ok, Err, IfErr}
-use Rattle.am_base.specs.Shelves.{File, Told, OnTold, file_named}
+use Rattle.am_base.specs.Shelves.{File, Told, OnTold}
 use Rattle.am_cli.specs.Commands.{Link, Command, Says, SaysLink, IsNoCommand}
 use Rattle.am_cli.specs.Commands.Command.{Linking, Showing}
 use Rattle.am_cli.specs.Link.{IsTaken, IsRefused, LinkRefusal, IsLinkProduct}
@@ -11,11 +11,7 @@ use Rattle.am_cli.specs.Stops.{Refusal, Stop, refusal_status, stop_status}
 use Rattle.am_cli.specs.Stops.Refusal.{Missing, TooLong, NotPlain}
 use Rattle.am_cli.specs.Stops.Stop.{NoCommand, Refused, ReadFault, WriteFault, NoMemory}
 use Rattle.am_cli.proofs.CaptureLemmas.{not_plain_once, not_both}
-use Rattle.am_cli.proofs.ShowLemmas.{show_refused_once, show_not_refused, show_named_leaves, show_none_leaves}
-
--- a file has one list of bytes
-one_file : (files : List File) (name a b : List ℕ) → file_named files name ≡ Some a → file_named files name ≡ Some b → a ≡ b
-one_file files name a b p q = cc
+use Rattle.am_cli.proofs.ShowLemmas.{one_file, show_refused_once, show_not_refused, show_named_leaves, show_none_leaves}
 
 -- the words of `link` by their parts
 abbrev made : ℕ → ℕ → ℕ → List ℕ → List ℕ → Link

@@ -47,7 +47,7 @@ broken_once bytes j k ps qs a b =
     ]
 
 -- a file has one list of bytes
-one_file : (files : List File) (name a b : List ℕ) → file_named files name ≡ Some a → file_named files name ≡ Some b → a ≡ b
+pub one_file : (files : List File) (name a b : List ℕ) → file_named files name ≡ Some a → file_named files name ≡ Some b → a ≡ b
 one_file files name a b p q = cc
 
 pub show_refused_once : (files : List File) (s : Show) (r q : Refusal) → ShowRefusal files s r → ShowRefusal files s q → r ≡ q

@@ -5,23 +5,15 @@ ghost use Rattle.am_cli.specs.Marked.{Marked, IsPlainlyMarked, Begins};
 ghost use Rattle.am_cli.specs.Tallies.{tally, other, IsCounted};
 ghost use Rattle.am_cli.specs.Counting.{marked_shown, one_in, Counted, Faulted};
 
+use crate::plain::{HEAD_LENGTH, PLAIN};
 use crate::table::{Side, Table};
 use am_clock::Timing;
 use am_opts::{Mark, decode_mark};
-use am_pcap::{Form, plain_head, plain_record};
+use am_pcap::{plain_head, plain_record};
 use std::alloc::AllocError;
-
-/// How many bytes the file header of a capture has.
-const HEAD_LENGTH: usize = 24;
 
 /// How many bytes a packet with a mark has at least: the fixed IPv6 header, and a Hop-by-Hop header of eight bytes.
 const MARKED_LENGTH: usize = 48;
-
-/// The form of a plain capture: little-endian, with fractions of a second in microseconds.
-const PLAIN: Form = Form {
-    big: false,
-    nano: false,
-};
 
 /// Why a capture could not be counted.
 #[derive(Clone, Copy, Debug, PartialEq, Eq)]

@@ -12,15 +12,13 @@ ghost use Rattle.am_cli.specs.Runs.{IsStopOf, PrintsLast};
 ghost use Rattle.am_cli.specs.Shown.{link_shown, stop_shown};
 
 use crate::capture::{CountFault, count_capture};
+use crate::plain::MOST_BYTES;
 use crate::stop::{Refusal, Stop, file_stop};
 use crate::table::{Side, Table};
 use crate::words::LinkWords;
 use am_base::{Shelf, Sink, put, read_file};
 use am_clock::Timing;
 use std::alloc::Global;
-
-/// The most bytes of a capture, which is held in memory whole while it is counted.
-const MOST_BYTES: u32 = 16_777_216;
 
 /// Reads both captures, the first whole before the second, and prints the table of their flow's records: those of the
 /// first point at shift 0, those of the second at the smallest delay. Nothing is printed before both were accepted.

@@ -6,6 +6,7 @@
 
 mod capture;
 mod link;
+mod plain;
 mod run;
 mod show;
 mod stop;

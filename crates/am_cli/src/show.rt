@@ -17,25 +17,14 @@ ghost use Rattle.am_cli.specs.Runs.{IsStopOf};
 ghost use Rattle.am_cli.specs.Shown.{show_shown, stop_shown};
 ghost use Rattle.am_cli.specs.declared.show.ShowFault.TheVariants.{Write};
 
+use crate::plain::{HEAD_LENGTH, MOST_BYTES, PLAIN};
 use crate::stop::{Refusal, Stop, file_stop};
 use crate::words::ShowWords;
 use am_base::{Shelf, Sink, put, read_file};
 use am_ip6::{Ending, Found, Place, Walk, find_mark, walk_ending};
-use am_pcap::{Form, Frame, LinkKind, Record, packet_of, plain_head, plain_record};
+use am_pcap::{Frame, LinkKind, Record, packet_of, plain_head, plain_record};
 use std::alloc::{AllocError, Global};
 use std::fmt::Write;
-
-/// The most bytes of a capture, which is held in memory whole while it is shown.
-const MOST_BYTES: u32 = 16_777_216;
-
-/// The bytes of a file header.
-const HEAD_LENGTH: usize = 24;
-
-/// How the numbers of a plain capture are written.
-const PLAIN: Form = Form {
-    big: false,
-    nano: false,
-};
 
 /// Reads the capture whole, and prints the line of each record before it looks at the next.
 pub fn show<'a, S: Shelf, O: Sink>(
