@@ -4,7 +4,7 @@ ghost use Rattle.std.specs.Prelude.{◌≡◌, ℕ, ◌+◌, ◌*◌, ◌/◌, �
 ghost use Rattle.am_clock.specs.Times.{Times, times_of, half, IsTiming, parity, IsMarkedIn, belongs_to};
 ghost use Rattle.am_clock.specs.Epochs.{IsEpoch, Means};
 ghost use Rattle.am_clock.specs.Refusals.{IsFirstFault};
-ghost use Rattle.am_clock.specs.Covered.{StartsIn, EndsIn, IsCovered};
+ghost use Rattle.am_clock.specs.Covered.{StartsIn, EndsIn, IsCovered, IsFirstFrom, IsCountUntil};
 
 use std::marker::Model;
 
@@ -158,8 +158,10 @@ impl Timing {
     // has begun at the reading before.
     fn first_from(&self, from: u64, shift: u64) -> u64
         requires { shift ≤ 2 ^ 40 }
-        ensures { (n : ℕ) → (result ≤ n) ↔ StartsIn self.now from shift n }
+        ensures valid { IsTiming self.now }
+        ensures first { IsFirstFrom self.now from shift result }
     {
+        let _ = &self.block;
         let Some(before) = from.checked_sub(1) else {
             return 0;
         };
@@ -172,7 +174,8 @@ impl Timing {
     // How many blocks, counted from block 0, have windows with every reading below this one.
     fn count_until(&self, until: u64, shift: u64) -> u64
         requires { shift ≤ 2 ^ 40 }
-        ensures { (n : ℕ) → (n < result) ↔ EndsIn self.now until shift n }
+        ensures valid { IsTiming self.now }
+        ensures count { IsCountUntil self.now until shift result }
     {
         until.saturating_sub(self.block / 2 + shift) / self.block
     }
