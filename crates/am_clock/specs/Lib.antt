@@ -1,3 +1,4 @@
 pub mod Times
 pub mod Refusals
 pub mod Epochs
+pub mod Covered

@@ -1,9 +1,10 @@
 //! The numbers of a measurement's time, and which block a record belongs to.
 
-ghost use Rattle.std.specs.Prelude.{◌≡◌, ℕ, ◌+◌, ◌*◌, ◌/◌, ◌%◌, ◌^◌, ◌<◌, ◌≤◌, IsTrue, IfOk, IfErr, IfSome, IfNone, Ok, Err, Some, None};
+ghost use Rattle.std.specs.Prelude.{◌≡◌, ℕ, ◌+◌, ◌*◌, ◌/◌, ◌%◌, ◌^◌, ◌<◌, ◌≤◌, IsTrue, ◌↔◌, IfOk, IfErr, IfSome, IfNone, Ok, Err, Some, None};
 ghost use Rattle.am_clock.specs.Times.{Times, times_of, half, IsTiming, parity, IsMarkedIn, belongs_to};
 ghost use Rattle.am_clock.specs.Epochs.{IsEpoch, Means};
 ghost use Rattle.am_clock.specs.Refusals.{IsFirstFault};
+ghost use Rattle.am_clock.specs.Covered.{StartsIn, EndsIn, IsCovered, IsFirstFrom, IsCountUntil};
 
 use std::marker::Model;
 
@@ -136,6 +137,49 @@ impl Timing {
         epoch_block(epoch, colour)
     }
 
+    /// The blocks that a span of readings covers at a node of this shift: those whose windows have every
+    /// reading in the span, from `from` and below `until` (windows as in RFC 9341, section 5). They are
+    /// the blocks from the first number and below the second, so there are none where the first is not
+    /// below the second. All three are in nanoseconds, and the shift is at most 2^40.
+    ///
+    /// The first number is the least block whose window has no reading before `from`. The second is how
+    /// many blocks, counted from block 0, have windows with every reading below `until`. No reading is
+    /// below 0, so a span from 0 covers block 0 although its window may begin before.
+    pub fn covered(&self, from: u64, until: u64, shift: u64) -> (u64, u64)
+        requires { shift ≤ 2 ^ 40 }
+        ensures first { (n : ℕ) → (result.0 ≤ n) ↔ StartsIn self.now from shift n }
+        ensures count { (n : ℕ) → (n < result.1) ↔ EndsIn self.now until shift n }
+        ensures covered { (n : ℕ) → ((result.0 ≤ n) × (n < result.1)) ↔ IsCovered self.now from until shift n }
+    {
+        (self.first_from(from, shift), self.count_until(until, shift))
+    }
+
+    // The least block whose window has no reading before this one: the block behind the last whose window
+    // has begun at the reading before.
+    fn first_from(&self, from: u64, shift: u64) -> u64
+        requires { shift ≤ 2 ^ 40 }
+        ensures valid { IsTiming self.now }
+        ensures first { IsFirstFrom self.now from shift result }
+    {
+        let _ = &self.block;
+        let Some(before) = from.checked_sub(1) else {
+            return 0;
+        };
+        match self.epoch(before, shift) {
+            Some(epoch) => epoch + 1,
+            None => 0,
+        }
+    }
+
+    // How many blocks, counted from block 0, have windows with every reading below this one.
+    fn count_until(&self, until: u64, shift: u64) -> u64
+        requires { shift ≤ 2 ^ 40 }
+        ensures valid { IsTiming self.now }
+        ensures count { IsCountUntil self.now until shift result }
+    {
+        until.saturating_sub(self.block / 2 + shift) / self.block
+    }
+
     // The epoch of the reading: the last block whose window has begun. None where no window has.
     fn epoch(&self, reading: u64, shift: u64) -> Option<u64>
         requires { shift ≤ 2 ^ 40 }
@@ -262,6 +306,33 @@ mod tests {
         assert_eq!(rt; timing.attribute(u64::MAX, true, 0), Some((1 << 63) - 1));
         assert_eq!(rt; timing.block_of(u64::MAX), (1 << 63) - 1);
         assert_eq!(rt; colour_of(timing.block_of(u64::MAX)), true);
+    }
+
+    #[test]
+    fn a_span_covers_the_blocks_whose_windows_it_holds(rt: HostRuntime) {
+        let timing = Timing::new(10 * SECOND, SECOND, 0, 2 * SECOND).expect(&rt, "a timing");
+        for (from, until, shift, wanted) in [
+            (0, 40 * SECOND, 0, (0, 3)),
+            (1, 40 * SECOND, 0, (1, 3)),
+            (0, 45 * SECOND, 0, (0, 4)),
+            (0, 44_999_999_999, 0, (0, 3)),
+            (7 * SECOND, 40 * SECOND, 2 * SECOND, (1, 3)),
+            (7_000_000_001, 40 * SECOND, 2 * SECOND, (2, 3)),
+            (0, 0, 0, (0, 0)),
+            (u64::MAX, u64::MAX, 0, (1_844_674_408, 1_844_674_406)),
+            (0, u64::MAX, 1 << 40, (0, 1_844_674_296)),
+        ] {
+            assert_eq!(rt;
+                timing.covered(from, until, shift),
+                wanted,
+                "from {from} until {until}"
+            );
+        }
+        let shortest = Timing::new(2, 0, 7, 7).expect(&rt, "a timing");
+        assert_eq!(rt;
+            shortest.covered(u64::MAX, u64::MAX, 0),
+            (1 << 63, (1 << 63) - 1)
+        );
     }
 
     #[test]
