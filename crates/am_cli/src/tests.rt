@@ -47,6 +47,19 @@ const FRONT: &str = "block,in,out,lost\n0,2,2,0\n1,3,";
 
 const EMPTY: &str = "block,in,out,lost\n";
 
+const SHOW: [&str; 2] = ["show", "u.pcap"];
+
+// The lines of the first point's capture, the first two of them, the first, and the first 60 bytes.
+const LINES: &str =
+    "1 1000000000 48 48 ip6 0:8,=59 74565/0/1 -\n2 2000000000 48 48 ip6 0:8,=59 74565/0/0 -\n3 11000000000 48 48 ip6 0:8,=59 74565/1/1 -\n4 12000000000 48 48 ip6 0:8,=59 74565/1/0 -\n5 13000000000 48 48 ip6 0:8,=59 74565/1/0 -\n6 21000000000 48 48 ip6 0:8,=59 74565/0/1 -\n";
+
+const TWO_LINES: &str =
+    "1 1000000000 48 48 ip6 0:8,=59 74565/0/1 -\n2 2000000000 48 48 ip6 0:8,=59 74565/0/0 -\n";
+
+const ONE_LINE: &str = "1 1000000000 48 48 ip6 0:8,=59 74565/0/1 -\n";
+
+const LINES_FRONT: &str = "1 1000000000 48 48 ip6 0:8,=59 74565/0/1 -\n2 2000000000 48 4";
+
 // The file header of a plain capture.
 const HEAD: [u8; 24] = [
     0xd4, 0xc3, 0xb2, 0xa1, // microseconds, lowest byte first
@@ -64,6 +77,20 @@ const PACKET: [u8; 52] = [
     0x20, 0x01, 0x0d, 0xb8, 0x00, 0x01, 0x00, 0x00, 0x00, 0x00, 0x00, 0x00, 0x00, 0x00, 0x00, 0x01, // source
     0x20, 0x01, 0x0d, 0xb8, 0x00, 0x02, 0x00, 0x00, 0x00, 0x00, 0x00, 0x00, 0x00, 0x00, 0x00, 0x01, // destination
     0x3b, 0x00, 0x12, 0x04, // no next header, eight bytes, and an option of type 0x12 with four bytes
+];
+
+// A record of which 80 of 1,280 bytes were captured: a Routing header between two Destination headers, then UDP.
+const ROUTED: [u8; 96] = [
+    0x07, 0x00, 0x00, 0x00, 0x01, 0x00, 0x00, 0x00, // seven seconds and a microsecond
+    0x50, 0x00, 0x00, 0x00, 0x00, 0x05, 0x00, 0x00, // captured and original length: 80 and 1,280
+    0x60, 0x00, 0x00, 0x00, // version 6
+    0x04, 0xd8, 0x3c, 0x40, // payload length 1,240, Destination, hop limit 64
+    0x20, 0x01, 0x0d, 0xb8, 0x00, 0x01, 0x00, 0x00, 0x00, 0x00, 0x00, 0x00, 0x00, 0x00, 0x00, 0x01, // source
+    0x20, 0x01, 0x0d, 0xb8, 0x00, 0x02, 0x00, 0x00, 0x00, 0x00, 0x00, 0x00, 0x00, 0x00, 0x00, 0x01, // destination
+    0x2b, 0x00, 0x01, 0x04, 0x00, 0x00, 0x00, 0x00, // Routing comes next, eight bytes, and padding
+    0x3c, 0x02, 0x04, 0x01, 0x00, 0x00, 0x00, 0x00, // Destination comes next, 24 bytes, one segment left
+    0x20, 0x01, 0x0d, 0xb8, 0x00, 0x03, 0x00, 0x00, 0x00, 0x00, 0x00, 0x00, 0x00, 0x00, 0x00, 0x01, // the segment
+    0x11, 0x00, 0x12, 0x04, 0xff, 0xff, 0xf8, 0x03, // UDP comes next, eight bytes, flow 1,048,575 with the loss bit
 ];
 
 // A plain capture of these packets.
@@ -505,7 +532,7 @@ fn bounds_the_length(rt: HostRuntime) -> Result<(), Fail> {
 
 #[test]
 fn knows_no_other_commands(rt: HostRuntime) -> Result<(), Fail> {
-    let rows: [&[&str]; 19] = [
+    let rows: [&[&str]; 23] = [
         &[],
         &["audit"],
         &["--help"],
@@ -525,6 +552,10 @@ fn knows_no_other_commands(rt: HostRuntime) -> Result<(), Fail> {
         &["link", "10", "0", "1", "a\n", "b"],
         &["link", "10", "0", "1", "a", "\u{7f}"],
         &["link", "10", "0", "1", "a", "b", "c"],
+        &["show"],
+        &["show", ""],
+        &["show", "a", "b"],
+        &["Show", "a"],
     ];
     for words in rows {
         let files = files(rt.alloc(), &[("a", &HEAD), ("b", &HEAD)])?;
@@ -578,6 +609,188 @@ fn knows_names_of_any_letters(rt: HostRuntime) -> Result<(), Fail> {
             _ => format!(in rt.alloc(); "altmark: {name}: missing\n")?,
         };
         wants(&rt, &ran, status, "", &line, name);
+    }
+    Ok(())
+}
+
+#[test]
+fn shows_each_record(rt: HostRuntime) -> Result<(), Fail> {
+    // The capture is cut to these lengths.
+    let rows: [(usize, u8, &str, &str); 4] = [
+        (408, 0, LINES, ""),
+        (
+            162,
+            3,
+            TWO_LINES,
+            "altmark: u.pcap: capture is not plain: record 3\n",
+        ),
+        (
+            23,
+            3,
+            "",
+            "altmark: u.pcap: capture is not plain: record 0\n",
+        ),
+        (24, 0, "", ""),
+    ];
+    for (length, status, out, line) in rows {
+        let mut files = captures(rt.alloc(), &UP, &DOWN)?;
+        cut(&mut files, 0, length);
+        let ran = run_over(rt.alloc(), &SHOW, files, NO_FAULTS)?;
+        let row = format!(in rt.alloc(); "{length} bytes")?;
+        wants(&rt, &ran, status, out, line, &row);
+    }
+    Ok(())
+}
+
+#[test]
+fn shows_what_a_packet_holds(rt: HostRuntime) -> Result<(), Fail> {
+    // Bytes of a capture with one packet, whose mark is all zeros, are changed.
+    let rows: [(&[(usize, u8)], &str); 6] = [
+        (&[], "1 1000000000 48 48 ip6 0:8,=59 0/0/0 -\n"),
+        (
+            &[(82, 0x01), (83, 0x09)],
+            "1 1000000000 48 48 ip6 bad@42 - -\n",
+        ),
+        (&[(40, 0x40)], "1 1000000000 48 48 other\n"),
+        (&[(46, 0x3c)], "1 1000000000 48 48 ip6 60:8,=59 - 0/0/0\n"),
+        (
+            &[(37, 0x05), (44, 0x05)],
+            "1 1000000000 48 1328 ip6 0:8,=59 0/0/0 -\n",
+        ),
+        (
+            &[(37, 0x05), (44, 0x05), (81, 0x01)],
+            "1 1000000000 48 1328 ip6 cut cut cut\n",
+        ),
+    ];
+    for (changes, line) in rows {
+        let mut files = captures(rt.alloc(), &[(1, 0, 0)], &[])?;
+        for (at, to) in changes {
+            change(&mut files, *at, *to);
+        }
+        let ran = run_over(rt.alloc(), &SHOW, files, NO_FAULTS)?;
+        wants(&rt, &ran, 0, line, "", line);
+    }
+    Ok(())
+}
+
+#[test]
+fn shows_a_routed_packet(rt: HostRuntime) -> Result<(), Fail> {
+    let mut bytes = capture(rt.alloc(), &[])?;
+    bytes.extend_from_slice(&ROUTED)?;
+    let files = files(rt.alloc(), &[("u.pcap", &bytes)])?;
+    let ran = run_over(rt.alloc(), &SHOW, files, NO_FAULTS)?;
+    let line = "1 7000001000 80 1280 ip6 60:8,43:24,60:8,=17 - 1048575/1/0\n";
+    wants(&rt, &ran, 0, line, "", line);
+    Ok(())
+}
+
+#[test]
+fn shows_no_missing_file(rt: HostRuntime) -> Result<(), Fail> {
+    let files = captures(rt.alloc(), &UP, &DOWN)?;
+    let ran = run_over(rt.alloc(), &["show", "w.pcap"], files, NO_FAULTS)?;
+    wants(&rt, &ran, 4, "", "altmark: w.pcap: missing\n", "w.pcap");
+    Ok(())
+}
+
+// The capture is cut to these lengths; each line is one write.
+#[test]
+fn shows_up_to_a_fault(rt: HostRuntime) -> Result<(), Fail> {
+    let read = "altmark: u.pcap: read fault\n";
+    let write = "altmark: write fault\n";
+    let third = "altmark: u.pcap: capture is not plain: record 3\n";
+    let none = NO_FAULTS;
+    let rows: [(&str, usize, Faults, u8, &str, &str); 8] = [
+        (
+            "open 1",
+            408,
+            Faults {
+                bad_open: 1,
+                ..none
+            },
+            5,
+            "",
+            read,
+        ),
+        (
+            "read 1",
+            408,
+            Faults {
+                bad_read: 1,
+                ..none
+            },
+            5,
+            "",
+            read,
+        ),
+        (
+            "read 2",
+            408,
+            Faults {
+                bad_read: 2,
+                ..none
+            },
+            5,
+            "",
+            read,
+        ),
+        (
+            "write 1",
+            408,
+            Faults {
+                bad_write: 1,
+                ..none
+            },
+            6,
+            "",
+            write,
+        ),
+        (
+            "write 2",
+            408,
+            Faults {
+                bad_write: 2,
+                ..none
+            },
+            6,
+            ONE_LINE,
+            write,
+        ),
+        (
+            "room for 60 bytes",
+            408,
+            Faults { room: 60, ..none },
+            6,
+            LINES_FRONT,
+            write,
+        ),
+        (
+            "write 2, before record 3 is refused",
+            162,
+            Faults {
+                bad_write: 2,
+                ..none
+            },
+            6,
+            ONE_LINE,
+            write,
+        ),
+        (
+            "write 3, which is not reached",
+            162,
+            Faults {
+                bad_write: 3,
+                ..none
+            },
+            3,
+            TWO_LINES,
+            third,
+        ),
+    ];
+    for (row, length, faults, status, out, err) in rows {
+        let mut files = captures(rt.alloc(), &UP, &DOWN)?;
+        cut(&mut files, 0, length);
+        let ran = run_over(rt.alloc(), &SHOW, files, faults)?;
+        wants(&rt, &ran, status, out, err, row);
     }
     Ok(())
 }
