@@ -1,5 +1,5 @@
 -- The texts that stand for an address (RFC 4291, section 2.2). A text is the list of its bytes.
-use Rattle.std.specs.Prelude.{◌≡◌, ℕ, ◌+◌, ◌-◌, ◌*◌, ◌<◌, ◌≤◌, ◌⊎◌, List, [], ◌∷◌, ◌++◌, length, replicate}
+use Rattle.std.specs.Prelude.{◌≡◌, ℕ, ◌+◌, ◌-◌, ◌*◌, ◌/◌, ◌%◌, ◌<◌, ◌≤◌, ◌⊎◌, List, [], ◌∷◌, ◌++◌, length, replicate}
 
 -- the byte c is a hexadecimal digit, in either case, and stands for d: the digits begin at 48, the letters at 65 and at 97
 abbrev pub IsDigit : ℕ → ℕ → Type 0
@@ -47,8 +47,13 @@ pub record IsShortened (text values : List ℕ) : Type 0 where
 abbrev pub StandsFor : List ℕ → List ℕ → Type 0
 StandsFor text values = IsFull text values ⊎ IsShortened text values
 
--- the values of bytes: two bytes each, the higher first
-abbrev pub values_of : List ℕ → List ℕ
-values_of [] = []
-values_of (x ∷ []) = []
-values_of (x ∷ y ∷ rest) = (x * 256 + y) ∷ values_of rest
+-- the bytes of values: two each, the higher first
+abbrev pub bytes_of : List ℕ → List ℕ
+bytes_of [] = []
+bytes_of (v ∷ vs) = (v / 256) ∷ (v % 256) ∷ bytes_of vs
+
+-- the text stands for the address that has these bytes
+pub record IsTextOf (text bytes : List ℕ) : Type 0 where
+  pub values : List ℕ
+  pub stands : StandsFor text values
+  pub spelled : bytes ≡ bytes_of values

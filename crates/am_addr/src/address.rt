@@ -2,8 +2,8 @@
 //!
 //! The form whose last two values are written as an IPv4 address is not read.
 
-ghost use Rattle.std.specs.Prelude.{◌≡◌, ℕ, ◌+◌, ◌-◌, ◌/◌, ◌%◌, ◌≤◌, List, ◌++◌, length, replicate, IfSome, IfNone, IsSomeAnd};
-ghost use Rattle.am_addr.specs.Text.{StandsFor, IsShort, IsFull, values_of};
+ghost use Rattle.std.specs.Prelude.{◌≡◌, ℕ, ◌+◌, ◌-◌, ◌/◌, ◌%◌, ◌≤◌, List, ◌++◌, length, replicate, Some, IfSome, IfNone, IsSomeAnd};
+ghost use Rattle.am_addr.specs.Text.{StandsFor, IsShort, IsFull, IsTextOf, bytes_of};
 ghost use Rattle.am_addr.specs.Walk.{listed};
 
 use crate::groups::Groups;
@@ -19,10 +19,10 @@ pub struct Addr(pub [u8; 16]);
 /// None exactly where the text stands for no address. A text whose end is written as an IPv4 address
 /// stands for none here.
 pub fn parse(text: &str) -> Option<Addr>
-    ensures only { IfSome result (λ a. StandsFor text.now (values_of a.0)) }
-    // Whatever values the text stands for, they are found.
-    ensures found { (values : List ℕ) → StandsFor text.now values → IsSomeAnd result (λ a. values_of a.0 ≡ values) }
-    ensures none { IfNone result ((values : List ℕ) → StandsFor text.now values → ⊥) }
+    ensures only { IfSome result (λ a. IsTextOf text.now a.0) }
+    // Whatever address the text stands for, it is found.
+    ensures found { (bytes : List ℕ) → IsTextOf text.now bytes → result ≡ Some (record { 0 = bytes }) }
+    ensures none { IfNone result ((bytes : List ℕ) → IsTextOf text.now bytes → ⊥) }
 {
     match values_in(text) {
         Some(values) => Some(addr_of(values)),
@@ -31,8 +31,9 @@ pub fn parse(text: &str) -> Option<Addr>
 }
 
 // The address with these eight values.
+#[tactic(auto, using(crate::proofs::Bytes::eight))]
 fn addr_of(values: [u16; 8]) -> Addr
-    ensures { values_of result.0 ≡ values }
+    ensures { result.0 ≡ bytes_of values }
 {
     let [a, b, c, d, e, f, g, h] = values;
     Addr([

@@ -6,5 +6,7 @@
 mod address;
 mod groups;
 mod list;
+mod prefix;
 
 pub use address::{Addr, parse};
+pub use prefix::Prefix;
