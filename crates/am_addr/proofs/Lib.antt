@@ -1,0 +1,5 @@
+pub mod Walk
+pub mod Listing
+pub mod Gap
+pub mod Bytes
+pub mod Slash

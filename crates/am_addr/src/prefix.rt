@@ -1,0 +1,193 @@
+//! Prefixes: the first bits of addresses, and how many they are (RFC 4291, section 2.3).
+
+ghost use Rattle.std.specs.Prelude.{◌≡◌, ℕ, ◌+◌, ◌-◌, ◌*◌, ◌/◌, ◌^◌, ◌<◌, ◌≤◌, ◌↔◌, List, IsTrue, Some, IfSome, IfNone};
+ghost use Rattle.am_addr.specs.Text.{IsTextOf};
+ghost use Rattle.am_addr.specs.Bits.{Span, BeginAlike, cleared, kept, IsLength, Decimal, IsPrefixText};
+
+use crate::address::{Addr, parse};
+use std::marker::Model;
+
+// An address has so many bits.
+const BITS: u8 = 128;
+
+/// The addresses that begin with the same bits (RFC 4291, section 2.3): those bits, and how many they are, at
+/// most 128.
+#[derive(Clone, Copy, Debug, PartialEq, Eq)]
+pub struct Prefix {
+    // the bits past the length are 0
+    base: Addr,
+    length: u8,
+}
+
+impl Model for Prefix {
+    ghost use Rattle.std.specs.Prelude.{◌≡◌, ◌≤◌};
+    ghost use Rattle.am_addr.specs.Bits.{Span, cleared};
+
+    ghost Value = { Span };
+
+    ghost view = { λ p. record { bytes = p.base.0; length = p.length } };
+
+    ghost invariant = { λ p. (p.length ≤ 128) × (cleared p.length p.base.0 ≡ p.base.0) };
+
+    ghost inverse = { λ s. record { base = record { 0 = s.bytes }; length = s.length } };
+}
+
+impl Prefix {
+    /// The prefix that a text stands for: an address, `/`, and how many of its bits count, a decimal number
+    /// from 0 to 128 without a sign or leading zeros. The address's further bits may have any value, and are
+    /// set to 0.
+    ///
+    /// None exactly where the text stands for no prefix.
+    pub fn parse(text: &str) -> Option<Prefix>
+        ensures only { IfSome result (λ p. IsPrefixText text.now p) }
+        // Whatever prefix the text stands for, it is found.
+        ensures found { (span : Span) → IsPrefixText text.now span → result ≡ Some span }
+        ensures none { IfNone result ((span : Span) → IsPrefixText text.now span → ⊥) }
+    {
+        let Some((address, number)) = text.split_once('/') else {
+            return None;
+        };
+        let Some(addr) = parse(address) else {
+            return None;
+        };
+        let Some(length) = length_of(number.as_bytes()) else {
+            return None;
+        };
+        Some(Prefix {
+            base: front_of(&addr, length),
+            length,
+        })
+    }
+
+    /// Whether an address begins with the prefix's bits.
+    pub fn holds(&self, addr: &Addr) -> bool
+        ensures { IsTrue result ↔ BeginAlike self.now.length addr.now.0 self.now.bytes }
+    {
+        front_of(addr, self.length) == self.base
+    }
+
+    /// The first address of the prefix: its bits, and 0 for each further one.
+    pub fn base(&self) -> Addr
+        ensures value { result.0 ≡ self.now.bytes }
+        ensures zeros { cleared self.now.length result.0 ≡ result.0 }
+    {
+        self.base
+    }
+
+    /// How many bits count.
+    pub fn length(&self) -> u8
+        ensures value { result ≡ self.now.length }
+        ensures most { result ≤ 128 }
+    {
+        self.length
+    }
+}
+
+// The address with each bit past this many set to 0.
+fn front_of(addr: &Addr, length: u8) -> Addr
+    ensures { result.0 ≡ cleared length addr.now.0 }
+{
+    let mut bytes = addr.0;
+    let mut left = length;
+    for byte in &mut bytes {
+        let count = left.min(8);
+        *byte = keep(*byte, count);
+        left -= count;
+    }
+    Addr(bytes)
+}
+
+// The byte with each bit past the first ones, so many, set to 0.
+fn keep(byte: u8, count: u8) -> u8
+    requires { count ≤ 8 }
+    ensures { result ≡ kept count byte }
+{
+    let others = 8 - count;
+    let first = u16::from(byte) >> others;
+    (first << others) as u8
+}
+
+// How many bits a prefix has, as the number behind its `/` says.
+fn length_of(text: &[u8]) -> Option<u8>
+    ensures only { IfSome result (λ n. IsLength text.now n) }
+    ensures found { (n : ℕ) → IsLength text.now n → result ≡ Some n }
+{
+    if text.is_empty() {
+        return None;
+    }
+    if text[0] == b'0' {
+        // no digit follows a 0 that comes first
+        return if text.len() == 1 { Some(0) } else { None };
+    }
+    let mut length: u8 = 0;
+    for byte in text {
+        let Some(next) = with_digit(length, *byte) else {
+            return None;
+        };
+        length = next;
+    }
+    Some(length)
+}
+
+// The number with one more digit. None where that is none, and where the number passes 128.
+fn with_digit(before: u8, byte: u8) -> Option<u8>
+    requires { before ≤ 128 }
+    ensures goes { IfSome result (λ n. (n ≤ 128) × ((d : ℕ) × (d < 10) × (byte ≡ 48 + d) × (n ≡ before * 10 + d))) }
+    ensures none { IfNone result ((d : ℕ) → d < 10 → byte ≡ 48 + d → 128 < before * 10 + d) }
+{
+    if !byte.is_ascii_digit() {
+        return None;
+    }
+    let number = u16::from(before) * 10 + u16::from(byte - b'0');
+    if number > u16::from(BITS) {
+        return None;
+    }
+    Some(number as u8)
+}
+
+#[cfg(test)]
+mod tests {
+    use super::*;
+    use std::test::Fail;
+
+    #[test]
+    fn prefixes_hold_addresses(rt: HostRuntime) -> Result<(), Fail> {
+        let inside = parse("2001:db8:1::1").ok_or("an address")?;
+        let outside = parse("2001:db8:2::1").ok_or("an address")?;
+        let prefix = Prefix::parse("2001:db8:1::/48").ok_or("a prefix")?;
+        assert!(rt; prefix.holds(&inside));
+        assert!(rt; !prefix.holds(&outside));
+        let all = Prefix::parse("::/0").ok_or("a prefix")?;
+        assert!(rt; all.holds(&inside) && all.holds(&outside));
+        let one = Prefix::parse("2001:db8:1::1/128").ok_or("a prefix")?;
+        assert!(rt; one.holds(&inside) && !one.holds(&outside));
+        // a length within a byte: 1 and 2 differ in bit 47 alone
+        let wide = Prefix::parse("2001:db8:3::/46").ok_or("a prefix")?;
+        assert!(rt; wide.holds(&inside) && wide.holds(&outside));
+        Ok(())
+    }
+
+    #[test]
+    fn bits_past_the_length_are_zero(rt: HostRuntime) -> Result<(), Fail> {
+        let prefix = Prefix::parse("2001:db8:1::1/48").ok_or("a prefix")?;
+        assert_eq!(rt; prefix.base(), parse("2001:db8:1::").ok_or("an address")?);
+        assert_eq!(rt; prefix.length(), 48);
+        let within = Prefix::parse("2001:db8:ffff::/35").ok_or("a prefix")?;
+        assert_eq!(rt;
+            within.base(),
+            parse("2001:db8:e000::").ok_or("an address")?
+        );
+        assert_eq!(rt; Prefix::parse("2001:db8:1::/48"), Some(prefix));
+        Ok(())
+    }
+
+    #[test]
+    fn other_texts_stand_for_no_prefix(rt: HostRuntime) {
+        for text in [
+            "::/129", "::/048", "::/", "/", "::", "", "/48", "::/+4", "::/1000", "::/4/8", "::/00",
+            "1:2/16",
+        ] {
+            assert!(rt; Prefix::parse(text).is_none(), "{text}");
+        }
+    }
+}
