@@ -3,3 +3,5 @@ pub mod Listing
 pub mod Gap
 pub mod Bytes
 pub mod Slash
+pub mod Runs
+pub mod ReadBack

@@ -1,3 +1,4 @@
 pub mod Bits
+pub mod Print
 pub mod Text
 pub mod Walk
