@@ -104,23 +104,6 @@ ends-one number bytes (m ∷ ms) (n ∷ ns) s h g more no_s =
     let again : HoldsMarked (number + 1) h.0 ns s = subst (λ (bs : List ℕ). HoldsMarked (number + 1) bs ns s) (sym same.1) g.3 in
     ends-one (number + 1) h.0 ms ns s h.3 again more no_s
 
--- two readings that come to the end are the same
-whole-one :
-    (number : ℕ) (bytes : List ℕ) (ms ns : List Marked)
-    → HoldsMarked number bytes ms [] → HoldsMarked number bytes ns [] → ms ≡ ns
-whole-one number bytes [] [] h g = refl
-whole-one number bytes [] (n ∷ ns) h g = absurd (Begins-nil n g.0 (subst (λ (bs : List ℕ). Begins bs n g.0) h g.1))
-whole-one number bytes (m ∷ ms) [] h g = absurd (Begins-nil m h.0 (subst (λ (bs : List ℕ). Begins bs m h.0) g h.1))
-whole-one number bytes (m ∷ ms) (n ∷ ns) h g =
-    let same = Begins-one bytes m n h.0 g.0 h.1 g.1 (cc (h.2, g.2)) in
-    let again : HoldsMarked (number + 1) h.0 ns [] = subst (λ (bs : List ℕ). HoldsMarked (number + 1) bs ns []) (sym same.1) g.3 in
-    let e = whole-one (number + 1) h.0 ms ns h.3 again in
-    cc (same.0, e)
-
--- bytes are a plain capture with one list of records
-pub plain_once : (bytes : List ℕ) (ms ns : List Marked) → IsPlainCapture bytes ms → IsPlainCapture bytes ns → ms ≡ ns
-plain_once bytes ms ns p q = whole-one 1 (drop 24 bytes) ms ns p.records q.records
-
 -- one record is what is wrong with a capture
 pub not_plain_once : (bytes : List ℕ) (j k : ℕ) → IsNotPlain bytes j → IsNotPlain bytes k → j ≡ k
 not_plain_once bytes j k (inl p) (inl q) = cc (p.0, q.0)

@@ -1,6 +1,7 @@
 //! Where the IPv6 packet begins in the bytes of a record.
 ghost use Rattle.std.specs.Prelude.{◌≡◌, ◌+◌, ◌≤◌, ◌↔◌, ◌^◌, ◌<◌, length, IsTrue};
 ghost use Rattle.am_pcap.specs.Frames as frames;
+ghost use Rattle.am_pcap.specs.declared.frame.Frame.{Frame};
 ghost use Rattle.am_pcap.specs.Frames.{IsFramed, HasTag, IsTypePlace, TypeSays, VersionSays};
 
 #[cfg(test)]
@@ -48,7 +49,9 @@ const IP6: u32 = 0x86DD;
 /// among it, or all bytes were captured and there are too few to tell. `Cut`: there are too few to tell, and more were
 /// not captured.
 pub fn packet_of(link: LinkKind, bytes: &[u8], whole: bool) -> Frame
-    ensures { IsFramed link bytes.now whole result }
+    ensures framed { IsFramed link bytes.now whole result }
+    // Nothing else stands there.
+    ensures only { (f : Frame) → IsFramed link bytes.now whole f → result ≡ f }
 {
     match link {
         LinkKind::Ethernet => framed_at(bytes, type_place(bytes), whole),

@@ -10,5 +10,5 @@ returns-in-Ip6 c =
     on_ok c.push_packet.result
     (λ e. frame_of_packet (packet_shown c.args.packet.now) c.in-Ip6.at c.whole-whole.result _ _ _
     (whole_is c.whole-whole.result c.args.packet.now.original (length c.args.packet.now.bytes.now) c.whole-whole.ensures)
-    (take_rest c.args.packet.now.bytes.now c.in-Ip6.at) c.in-Ip6.ensures e)
+    (take_rest c.args.packet.now.bytes.now c.in-Ip6.at) c.in-Ip6.ensures.framed e)
     c.push_packet.ensures
