@@ -2,3 +2,5 @@ pub mod Packets
 pub mod Plain
 pub mod Shown
 pub mod Frames
+pub mod Heads
+pub mod Captures

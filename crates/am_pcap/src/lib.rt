@@ -6,9 +6,13 @@
 #![tactic(auto)]
 
 mod frame;
+mod head;
 mod plain;
 mod record;
+mod refusal;
 
 pub use frame::{Frame, LinkKind, packet_of};
+pub use head::{Head, file_head, record_head};
 pub use plain::{plain_head, plain_record};
 pub use record::{Form, Record};
+pub use refusal::CapError;
