@@ -1,3 +1,4 @@
 mod Splitting
 mod Steps
 mod Summaries
+mod Feeding

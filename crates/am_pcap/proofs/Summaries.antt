@@ -21,7 +21,7 @@ error-unique big number rest None (Some e) a b = absurd (a b.0)
 error-unique big number rest (Some d) None a b = absurd (b a.0)
 error-unique big number rest (Some d) (Some e) a b = ap Some (a.1 ∙ sym b.1)
 
-same_parts : (s t : Summary) → s.head ≡ t.head → s.count ≡ t.count → s.unfinished ≡ t.unfinished → s.taken ≡ t.taken → s.error ≡ t.error → s ≡ t
+pub same_parts : (s t : Summary) → s.head ≡ t.head → s.count ≡ t.count → s.unfinished ≡ t.unfinished → s.taken ≡ t.taken → s.error ≡ t.error → s ≡ t
 same_parts s t a b c d e = grind arith
 
 -- the parts that the bytes decide

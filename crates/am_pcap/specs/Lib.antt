@@ -4,3 +4,5 @@ pub mod Shown
 pub mod Frames
 pub mod Heads
 pub mod Captures
+pub mod Decoded
+pub mod Lent

@@ -5,12 +5,14 @@
 //! one, as slices of the file's bytes. Nothing here allocates, copies or loops.
 #![tactic(auto)]
 
+mod decoder;
 mod frame;
 mod head;
 mod plain;
 mod record;
 mod refusal;
 
+pub use decoder::Decoder;
 pub use frame::{Frame, LinkKind, packet_of};
 pub use head::{Head, file_head, record_head};
 pub use plain::{plain_head, plain_record};
