@@ -2,3 +2,4 @@ mod Splitting
 mod Steps
 mod Summaries
 mod Feeding
+mod Verdicts

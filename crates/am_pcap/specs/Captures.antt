@@ -1,5 +1,5 @@
 -- What a list of bytes comes to as a capture: which records are whole in it, and what is left.
-use Rattle.std.specs.Prelude.{◌≡◌, ℕ, ◌+◌, ◌<◌, ◌≤◌, Bool, List, [], ◌∷◌, length, take, drop, Option, Some, None, Result, Ok, Err}
+use Rattle.std.specs.Prelude.{◌≡◌, ◌≢◌, ◌⊎◌, ℕ, ◌+◌, ◌<◌, ◌≤◌, Bool, List, [], ◌∷◌, length, take, drop, Option, Some, None, Result, Ok, Err}
 use Rattle.am_pcap.specs.Packets.{word, Packet, IsWhole, HoldsPackets, most_captured}
 use Rattle.am_pcap.specs.Heads.{judged}
 use Rattle.am_pcap.specs.declared.refusal.CapError.{CapError}
@@ -76,3 +76,32 @@ unless_refused (Some e) otherwise = Err e
 
 abbrev pub verdict : Summary → Result (Unit {0}) CapError
 verdict s = unless_refused s.error (unless_cut s.head s.count s.unfinished)
+
+-- why a record is refused, of which these bytes are there: it says that it is too long, or there are some bytes of it but not all
+abbrev pub WhyRefused : Bool → ℕ → List ℕ → CapError → Type 0
+WhyRefused big number rest e =
+    (IsTooLong big rest × (e ≡ RecordTooLong number (word big rest 8)))
+    ⊎ ((IsTooLong big rest → ⊥) × (rest ≢ []) × (e ≡ CutFile number))
+
+-- behind a file header that is taken and whole records stands one that is refused
+pub record HasBadRecord (bytes : List ℕ) (e : CapError) : Type 0 where
+  pub whole : 24 ≤ length bytes
+  pub h : Head
+  pub head : judged (take 24 bytes) ≡ Ok h
+  pub packets : List Packet
+  pub rest : List ℕ
+  pub records : HoldsPackets h.form.big (drop 24 bytes) packets rest
+  pub stuck : IsWhole h.form.big rest → ⊥
+  pub why : WhyRefused h.form.big (length packets + 1) rest e
+
+-- why bytes are no capture: they end in the file header, or the file header is refused, or a record is
+abbrev pub IsRefused : CapError → List ℕ → Type 0
+IsRefused e bytes =
+    ((length bytes < 24) × (e ≡ CutFile 0))
+    ⊎ ((24 ≤ length bytes) × (judged (take 24 bytes) ≡ Err e))
+    ⊎ HasBadRecord bytes e
+
+-- what bytes are: a capture, or refused
+abbrev pub IsVerdict : Result (Unit {0}) CapError → List ℕ → Type 0
+IsVerdict (Ok u) bytes = (h : Head) × (ps : List Packet) × IsCapture bytes h ps
+IsVerdict (Err e) bytes = IsRefused e bytes

@@ -1,7 +1,7 @@
 //! A decoder of captures, which takes the bytes of a file in any pieces.
-ghost use Rattle.std.specs.Prelude.{◌≡◌, ◌+◌, ◌-◌, ◌*◌, ◌<◌, ◌≤◌, ◌^◌, ◌++◌, ℕ, [], length, take, min, Some, None, Ok, Err, IsSome, IfOk, IfErr, OnOk, OnSome, MatchOption, vec_len, vec_capacity, cond};
+ghost use Rattle.std.specs.Prelude.{◌≡◌, ◌+◌, ◌-◌, ◌*◌, ◌<◌, ◌≤◌, ◌^◌, ◌++◌, ℕ, List, [], length, take, min, Some, None, Ok, Err, IsSome, IfOk, IfErr, OnOk, OnSome, MatchOption, vec_len, vec_capacity, cond};
 ghost use Rattle.std.specs.Borrow.{sem};
-ghost use Rattle.am_pcap.specs.Captures.{verdict};
+ghost use Rattle.am_pcap.specs.Captures.{verdict, IsVerdict};
 ghost use Rattle.am_pcap.specs.Decoded.{Decoded, nothing_taken, after_take, Took, Refused, Counts, Goes, StandsFor, header_length};
 ghost use Rattle.am_pcap.specs.Packets.{word, IsWhole, first_packet};
 ghost use Rattle.am_pcap.specs.Shown.{packet_shown};
@@ -12,6 +12,9 @@ use crate::record::Record;
 use crate::refusal::CapError;
 use std::alloc::{AllocError, Global};
 use std::marker::Model;
+
+#[cfg(test)]
+mod tests;
 
 /// The bytes of a file header and of a record header, the most bytes that a record may have behind its header, and
 /// what a decoder has room for.
@@ -204,8 +207,10 @@ impl Decoder {
 
     /// Ok exactly where the bytes taken are a whole capture. `CutFile` where they end inside the file header (number 0)
     /// or inside a record; the refusal where there is one.
+    #[tactic(auto, using(crate::proofs::Verdicts::stands_says))]
     pub fn finish(&self) -> Result<(), CapError>
-        ensures { result ≡ verdict self.now.summary }
+        ensures value { result ≡ verdict self.now.summary }
+        ensures told { (bytes : List ℕ) → StandsFor self.now bytes → IsVerdict result bytes }
     {
         if let Some(error) = self.error {
             return Err(error);
