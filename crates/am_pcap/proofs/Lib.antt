@@ -3,3 +3,4 @@ mod Steps
 mod Summaries
 mod Feeding
 mod Verdicts
+mod Spelled

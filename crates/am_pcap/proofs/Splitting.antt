@@ -30,7 +30,7 @@ whole-append big bytes more w =
       body = omega (arith, e, w.body, length-append bytes more);
     }
 
-same_packet : (p q : Packet) → p.seconds ≡ q.seconds → p.fraction ≡ q.fraction → p.original ≡ q.original → p.bytes ≡ q.bytes → p ≡ q
+pub same_packet : (p q : Packet) → p.seconds ≡ q.seconds → p.fraction ≡ q.fraction → p.original ≡ q.original → p.bytes ≡ q.bytes → p ≡ q
 same_packet p q a b c d = grind arith
 
 -- with the same packet

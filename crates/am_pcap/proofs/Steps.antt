@@ -10,13 +10,13 @@ use Rattle.am_pcap.specs.declared.head.Head.{Head}
 use Rattle.am_pcap.proofs.Splitting.{packets-append, packets-join}
 
 -- a list whose length is this is its own front
-take-whole : (n : ℕ) (xs : List ℕ) → length xs ≡ n → take n xs ≡ xs
+pub take-whole : (n : ℕ) (xs : List ℕ) → length xs ≡ n → take n xs ≡ xs
 take-whole n xs h =
     let e : take (length xs) (xs ++ []) ≡ xs = take-append_seam xs [] in
     let f : take (length xs) xs ≡ xs = subst (λ y. take (length xs) y ≡ xs) (append-nil xs) e in
     subst (λ m. take m xs ≡ xs) h f
 
-drop-whole : (n : ℕ) (xs : List ℕ) → length xs ≡ n → drop n xs ≡ []
+pub drop-whole : (n : ℕ) (xs : List ℕ) → length xs ≡ n → drop n xs ≡ []
 drop-whole n xs h =
     let e : drop (length xs) (xs ++ []) ≡ [] = drop-append_seam xs [] in
     let f : drop (length xs) xs ≡ [] = subst (λ y. drop (length xs) y ≡ []) (append-nil xs) e in
