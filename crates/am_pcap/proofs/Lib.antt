@@ -4,3 +4,4 @@ mod Summaries
 mod Feeding
 mod Verdicts
 mod Spelled
+mod Forms

@@ -1,5 +1,6 @@
 //! The headers of a capture: that of the file, and that of a record.
-ghost use Rattle.std.specs.Prelude.{◌≡◌, ◌+◌, ◌++◌, ◌∷◌, ℕ, [], ◌<◌, ◌≤◌, ◌≢◌, ◌^◌, List, length, Ok, IfSome, IfNone};
+ghost use Rattle.std.specs.Prelude.{◌≡◌, ◌+◌, ◌++◌, ◌∷◌, ℕ, [], ◌<◌, ◌≤◌, ◌≢◌, ◌^◌, List, length, Ok, IfSome, IfNone, cond};
+ghost use Rattle.std.specs.Int.{w32, to_be_bytes, to_le_bytes};
 ghost use Rattle.am_pcap.specs.Packets.{word, HoldsPackets};
 ghost use Rattle.am_pcap.specs.Heads.{half, magic_of, link_number, link_bits, IsHead, IsJudged, SomeMagic, judged};
 ghost use Rattle.am_pcap.specs.Heads as heads;
@@ -30,6 +31,7 @@ const NANO: u32 = 0xa1b2_3c4d;
 #[tactic(auto, unfolding(crate::specs::Packets::word, crate::specs::Heads::half))]
 pub fn file_head(form: Form, link: LinkKind) -> [u8; 24]
     ensures read_back { IsHead (record { raw = result; form = form; link = link }) result }
+    ensures judged { judged result ≡ Ok (record { raw = result; form = form; link = link }) }
     ensures zone { word form.big result 8 ≡ 0 }
     ensures accuracy { word form.big result 12 ≡ 0 }
     ensures snapshot { word form.big result 16 ≡ 262144 }
@@ -180,7 +182,8 @@ fn magic(nano: bool) -> u32
 // The four bytes of a number in a byte order.
 #[tactic(auto, unfolding(crate::specs::Packets::word))]
 fn word_bytes(big: bool, n: u32) -> [u8; 4]
-    ensures { word big result 0 ≡ n }
+    ensures word { word big result 0 ≡ n }
+    ensures bytes { result ≡ cond big (to_be_bytes w32 n) (to_le_bytes w32 n) }
 {
     if big {
         n.to_be_bytes()
