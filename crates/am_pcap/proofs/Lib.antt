@@ -5,3 +5,4 @@ mod Feeding
 mod Verdicts
 mod Spelled
 mod Forms
+mod Told
