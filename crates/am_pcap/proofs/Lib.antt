@@ -1,8 +1,8 @@
-mod Splitting
-mod Steps
-mod Summaries
-mod Feeding
-mod Verdicts
-mod Spelled
-mod Forms
-mod Told
+pub mod Splitting
+pub mod Steps
+pub mod Summaries
+pub mod Feeding
+pub mod Verdicts
+pub mod Spelled
+pub mod Forms
+pub mod Told
