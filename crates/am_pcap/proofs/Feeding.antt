@@ -209,6 +209,7 @@ shown-bad_head b None None count taken false waiting piece n e after e1 e2 e3 wi
   kept = refl;
   ends = ap length is ∙ long;
   waiting = refl;
+  same = refl;
 }
 
 -- bytes of a record that isn't whole then
@@ -323,11 +324,13 @@ still-none (Some k) b after false w = refl
 
 -- a refusal behind bytes that were taken
 pub refused-both :
-    (a b c : Decoded) (piece : List ℕ) (n : ℕ) (e : CapError) → Took a b piece n → Refused b c (drop n piece) e → Refused a c piece e
-refused-both a b c piece n e p q = record {
+    (a b c : Decoded) (piece : List ℕ) (n : ℕ) (e : CapError) → Took a b piece n → b.summary.count ≡ a.summary.count
+    → Refused b c (drop n piece) e → Refused a c piece e
+refused-both a b c piece n e p count q = record {
   n = n + q.n;
   took = took-both a b c piece n q.n p q.took;
   kept = q.kept;
   ends = q.ends;
   waiting = q.waiting;
+  same = q.same ∙ count;
 }

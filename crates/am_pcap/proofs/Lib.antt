@@ -6,3 +6,7 @@ pub mod Verdicts
 pub mod Spelled
 pub mod Forms
 pub mod Told
+pub mod Refusals
+pub mod Shelved
+pub mod SeekSteps
+pub mod HeadReading

@@ -101,6 +101,13 @@ IsRefused e bytes =
     ⊎ ((24 ≤ length bytes) × (judged (take 24 bytes) ≡ Err e))
     ⊎ HasBadRecord bytes e
 
+-- the same, and these are the packets of the whole records before what is refused
+abbrev pub IsRefusedAfter : CapError → List ℕ → List Packet → Type 0
+IsRefusedAfter e bytes ps =
+    ((length bytes < 24) × (e ≡ CutFile 0) × (ps ≡ []))
+    ⊎ ((24 ≤ length bytes) × (judged (take 24 bytes) ≡ Err e) × (ps ≡ []))
+    ⊎ ((bad : HasBadRecord bytes e) × (bad.packets ≡ ps))
+
 -- what bytes are: a capture, or refused
 abbrev pub IsVerdict : Result (Unit {0}) CapError → List ℕ → Type 0
 IsVerdict (Ok u) bytes = (h : Head) × (ps : List Packet) × IsCapture bytes h ps

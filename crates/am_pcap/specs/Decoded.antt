@@ -44,13 +44,15 @@ abbrev pub header_length : Option Head → ℕ
 header_length None = 24
 header_length (Some h) = 16
 
--- it refused: it took bytes up to the end of the header that is refused, and keeps the refusal
+-- it refused: it took bytes up to the end of the header that is refused, with no whole record among them, and keeps the
+-- refusal
 pub record Refused (old new : Decoded) (piece : List ℕ) (e : CapError) : Type 0 where
   pub n : ℕ
   pub took : Took old new piece n
   pub kept : new.summary.error ≡ Some e
   pub ends : length new.summary.unfinished ≡ header_length new.summary.head
   pub waiting : new.waiting ≡ None
+  pub same : new.summary.count ≡ old.summary.count
 
 -- the number of whole records rises where one comes to wait, and nowhere else
 pub record Counts (old new : Decoded) : Type 0 where

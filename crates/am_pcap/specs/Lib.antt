@@ -1,8 +1,11 @@
 pub mod Packets
-pub mod Plain
 pub mod Shown
 pub mod Frames
 pub mod Heads
 pub mod Captures
 pub mod Decoded
 pub mod Lent
+pub mod Chunks
+pub mod Readings
+pub mod Seeking
+pub mod Left

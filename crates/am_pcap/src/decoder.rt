@@ -1,5 +1,5 @@
 //! A decoder of captures, which takes the bytes of a file in any pieces.
-ghost use Rattle.std.specs.Prelude.{◌≡◌, ◌+◌, ◌-◌, ◌*◌, ◌<◌, ◌≤◌, ◌^◌, ◌++◌, ℕ, List, [], length, take, min, Some, None, Ok, Err, IsSome, IfOk, IfErr, OnOk, OnSome, MatchOption, vec_len, vec_capacity, cond};
+ghost use Rattle.std.specs.Prelude.{◌≡◌, ◌+◌, ◌-◌, ◌*◌, ◌<◌, ◌≤◌, ◌^◌, ◌++◌, ℕ, List, [], length, take, min, Some, None, Ok, Err, IsSome, IsTrue, ◌↔◌, IfOk, IfErr, OnOk, OnSome, MatchOption, vec_len, vec_capacity, cond};
 ghost use Rattle.std.specs.Borrow.{sem};
 ghost use Rattle.am_pcap.specs.Captures.{verdict, IsVerdict};
 ghost use Rattle.am_pcap.specs.Decoded.{Decoded, nothing_taken, after_take, Took, Refused, Counts, Goes, StandsFor, header_length};
@@ -83,6 +83,7 @@ impl Decoder {
         ensures stalled { IsSome self.old.waiting → (result ≡ Ok 0) × (self.new ≡ self.old) }
         ensures counts { OnOk result (self.old.waiting ≡ None → Counts self.old self.new) }
         ensures refused { IfErr result (λ e. self.old.summary.error ≡ None → Refused self.old self.new piece.now e) }
+        ensures head { IsSome self.old.summary.head → self.new.summary.head ≡ self.old.summary.head }
         ensures repeated { (e : CapError) → self.old.summary.error ≡ Some e → (result ≡ Err e) × (self.new ≡ self.old) }
     {
         if let Some(error) = self.error {
@@ -148,6 +149,7 @@ impl Decoder {
         ensures clean { OnOk result (self.new.summary.error ≡ None) }
         ensures all { IfOk result (λ n. n < length piece.now → IsSome self.new.waiting) }
         ensures counts { OnOk result (Counts self.old self.new) }
+        ensures head { self.new.summary.head ≡ self.old.summary.head }
         ensures refused { IfErr result (λ e. Refused self.old self.new piece.now e) }
     {
         let Some(head) = self.head else {
@@ -181,6 +183,13 @@ impl Decoder {
         self.full = true;
         self.waiting = true;
         Ok(n + m)
+    }
+
+    /// Whether a record waits.
+    pub fn is_waiting(&self) -> bool
+        ensures { IsTrue result ↔ IsSome self.now.waiting }
+    {
+        self.waiting
     }
 
     /// The record that waits, which then waits no longer. Some exactly where one waits.

@@ -12,4 +12,5 @@ returns-in-Ok-feed_record-clause-took c =
 pub returns-in-Err-feed_record-clause-refused : goal.returns-in-Err-feed_record-clause-refused
 returns-in-Err-feed_record-clause-refused c = λ clean.
     refused-both c.args.self.now c.feed_head.new.self c.feed_record-2.new.self c.args.piece.now c.in-Ok.n c.in-Err-feed_record.error c.in-Ok.ensures.took
+    (c.in-Ok.ensures.counts.same c.feed_head.ensures.waiting)
     (subst (λ x. Refused c.feed_head.new.self c.feed_record-2.new.self x c.in-Err-feed_record.error) c.split_at.ensures.back c.in-Err-feed_record.ensures.refused)

@@ -62,6 +62,7 @@ returns-then-length-gt-MOST_CAPTURED-clause-refused c =
       kept = refl;
       ends = rw c.in-Some.is ends;
       waiting = still-none c.self.inside.head c.self.inside.buffer.items c.fill-n.new.buffer.items c.self.inside.waiting waits;
+      same = refl;
     })
 
 pub invariant_of-self-then-len-end : goal.invariant_of-self-then-len-end

@@ -1,0 +1,232 @@
+-- How a capture comes to its file header, step by step.
+use Rattle.std.proofs.Common.{arith, refl, sym, ap, subst, ◌∙◌, ◌≡◌, ℕ, ◌+◌, ◌<◌, ◌≤◌, Bool, List, [], ◌∷◌, ◌++◌, length, take, drop, Option, Some, None, append_assoc, inl, inr}
+use Rattle.std.proofs.lemmas.List.{length-append, append-nil, take-append-drop, length-drop, length-take}
+use Rattle.std.proofs.lemmas.Bool.{cases_lt}
+use Rattle.std.specs.Prelude.{IsSome, min}
+use Rattle.am_base.specs.Shelves.{Told, Takes, Opens}
+use Rattle.am_pcap.specs.Packets.{Packet, IsWhole, HoldsPackets}
+use Rattle.am_pcap.specs.Captures.{Summary, HasSummary, IsRefusedAfter}
+use Rattle.am_pcap.specs.Decoded.{Decoded, Took, Refused, Counts, nothing_taken}
+use Rattle.am_pcap.specs.Readings.{AreRefused, most_read, Opened, RefusesOpen, WhyNotOpened}
+use Rattle.am_pcap.specs.Seeking.{Holds, HeadUnread, HeadFed, HeadBad, HeadFound, HeadGrown, HeadFault, HeadRefused, HeadFails, waiting_packets, reading_of}
+use Rattle.am_pcap.specs.declared.refusal.CapError.{CapError}
+use Rattle.am_pcap.specs.declared.head.Head.{Head}
+use Rattle.am_pcap.specs.declared.capture.FileError.{FileError}
+use Rattle.am_pcap.specs.declared.capture.FileError.TheVariants.{Missing, ReadFault, TooLong, Bad, Memory}
+use Rattle.am_pcap.proofs.Steps.{take-whole, drop-whole, summary-none}
+use Rattle.am_pcap.proofs.Feeding.{front_length}
+use Rattle.am_pcap.proofs.Refusals.{took-holds, refused-holds, refused-after, not-cut}
+use Rattle.am_pcap.proofs.SeekSteps.{holds-given}
+use Rattle.am_pcap.proofs.Shelved.{takes-none, takes-join, part-none, part-more}
+
+no-records : (big : Bool) (bytes : List ℕ) (ps : List Packet) (rest : List ℕ) → length bytes < 16 → HoldsPackets big bytes ps rest → ps ≡ []
+no-records big bytes [] rest few h = refl
+no-records big bytes (p ∷ ps) rest few h = let w : IsWhole big bytes = h.0 in absurd (omega (arith, w.head, few))
+
+none-parts :
+    (bytes : List ℕ) (ps : List Packet) (head : Option Head) (count : ℕ) (u : List ℕ) (taken : ℕ) (e : Option CapError)
+    → HasSummary bytes ps (record { head = head; count = count; unfinished = u; taken = taken; error = e }) → length bytes ≤ 24 → ps ≡ []
+none-parts bytes ps None count u taken None s few = s.split.none
+none-parts bytes ps None count u taken (Some e) s few = s.split.none
+none-parts bytes ps (Some h) count u taken e s few =
+    no-records h.form.big (drop 24 bytes) ps u (omega (arith, length-drop 24 bytes, few)) s.split.records
+
+-- a file header alone has no record
+pub short-none : (bytes : List ℕ) (ps : List Packet) (s : Summary) → HasSummary bytes ps s → length bytes ≤ 24 → ps ≡ []
+short-none bytes ps s h few = none-parts bytes ps s.head s.count s.unfinished s.taken s.error h few
+
+unread-parts :
+    (bytes : List ℕ) (ps : List Packet) (head : Option Head) (count : ℕ) (u : List ℕ) (taken : ℕ) (e : Option CapError)
+    → HasSummary bytes ps (record { head = head; count = count; unfinished = u; taken = taken; error = e }) → head ≡ None → e ≡ None → length bytes < 24
+unread-parts bytes ps None count u taken None s h k = s.split.short
+unread-parts bytes ps None count u taken (Some e) s h k = absurd (cc (k))
+unread-parts bytes ps (Some p) count u taken e s h k = absurd (cc (h))
+
+-- where there is no file header yet, there are few bytes
+pub unread-short : (bytes : List ℕ) (ps : List Packet) (s : Summary) → HasSummary bytes ps s → s.head ≡ None → s.error ≡ None → length bytes < 24
+unread-short bytes ps s h head error = unread-parts bytes ps s.head s.count s.unfinished s.taken s.error h head error
+
+none-of : (w : Option Packet) → waiting_packets w ≡ [] → w ≡ None
+none-of None e = refl
+none-of (Some p) e = absurd (cc (e))
+
+not-some : (w : Option Packet) → w ≡ None → IsSome w → ⊥
+not-some None e h = absurd (cc (h))
+not-some (Some p) e h = absurd (cc (e))
+
+-- the decoder took bytes of the file header alone
+pub head-fed :
+    (d d' : Decoded) (held : List ℕ) (missing k n : ℕ) (some : (bytes : List ℕ) × HasSummary bytes [] d.summary)
+    → d.waiting ≡ None → d.summary.taken + missing ≡ 24 → k ≡ min missing (length held)
+    → Took d d' (take k held) n → Counts d d' → d'.summary.error ≡ None → (n < length (take k held) → IsSome d'.waiting)
+    → HeadFed d held d' (drop n held)
+head-fed d d' held missing k n some none left is took counts clean all =
+    let within : k ≤ length held = omega (arith, is) in
+    let front : length (take k held) ≡ k = front_length k held within in
+    let most : n ≤ k = omega (arith, took.within, front) in
+    let grown : (bytes : List ℕ) → HasSummary bytes [] d.summary → HasSummary (bytes ++ take n (take k held)) (waiting_packets d'.waiting) d'.summary =
+    λ bytes h. took-holds d d' (take k held) n took counts none bytes [] h in
+    let first = grown some.0 some.1 in
+    let few : length (some.0 ++ take n (take k held)) ≤ 24 =
+    omega (arith, length-append some.0 (take n (take k held)), length-take n (take k held), some.1.taken, left, most, is) in
+    let waits : d'.waiting ≡ None = none-of d'.waiting (short-none (some.0 ++ take n (take k held)) (waiting_packets d'.waiting) d'.summary first few) in
+    let n_is : n ≡ k = elim (cases_lt n (length (take k held))) [
+      | inl a ↦ absurd (not-some d'.waiting waits (all a))
+      | inr a ↦ omega (arith, a, front, most)
+    ] in
+    let whole : take n (take k held) ≡ take k held = take-whole n (take k held) (omega (arith, front, n_is)) in
+    let rest : drop n held ≡ drop k held = ap (λ m. drop m held) n_is in
+    let summary : (bytes : List ℕ) → HasSummary bytes [] d.summary → HasSummary (bytes ++ take k held) [] d'.summary =
+    λ bytes h. subst (λ x. HasSummary (bytes ++ x) [] d'.summary) whole
+    (subst (λ w. HasSummary (bytes ++ take n (take k held)) (waiting_packets w) d'.summary) waits (grown bytes h)) in
+    let here = summary some.0 some.1 in
+    record {
+      clean = clean;
+      none_waits = waits;
+      count = here.count;
+      all = omega (arith, took.taken, n_is, within, length-drop n held);
+      missing = λ head.
+          let short = unread-short (some.0 ++ take k held) [] d'.summary here head clean in
+          let many : k ≡ length held = omega (arith, short, length-append some.0 (take k held), front, some.1.taken, left, is) in
+          (rest ∙ drop-whole k held (sym many), omega (arith, here.taken, short));
+      moves = λ bytes h. record {
+        taken = bytes ++ take k held;
+        split = ap (λ x. bytes ++ x) (sym (take-append-drop k held)) ∙ sym (append_assoc bytes (take k held) (drop k held))
+            ∙ ap (λ x. (bytes ++ take k held) ++ x) (sym rest);
+        summary = summary bytes h;
+      };
+    }
+
+-- the decoder refused the file header
+pub head-bad :
+    (d d' : Decoded) (held : List ℕ) (k : ℕ) (e : CapError) (some : (bytes : List ℕ) × HasSummary bytes [] d.summary)
+    → d.waiting ≡ None → Refused d d' (take k held) e → HeadBad d held e
+head-bad d d' held k e some none r =
+    let grown : (bytes : List ℕ) → HasSummary bytes [] d.summary → HasSummary (bytes ++ take r.n (take k held)) [] d'.summary =
+    λ bytes h. refused-holds d d' (take k held) e r none bytes [] h in
+    record {
+      not_cut = not-cut (some.0 ++ take r.n (take k held)) [] d'.summary e (grown some.0 some.1) r.kept;
+      refused = λ bytes h rest cut.
+          let front : List ℕ = take r.n (take k held) in
+          let mid : List ℕ = drop r.n (take k held) in
+          let a : IsRefusedAfter e ((bytes ++ take r.n (take k held)) ++ (drop r.n (take k held) ++ (drop k held ++ rest))) [] =
+          refused-after (bytes ++ take r.n (take k held)) [] d'.summary e (grown bytes h) r.kept (drop r.n (take k held) ++ (drop k held ++ rest)) in
+          let is : (bytes ++ take r.n (take k held)) ++ (drop r.n (take k held) ++ (drop k held ++ rest)) ≡ (bytes ++ held) ++ rest =
+          append_assoc bytes (take r.n (take k held)) (drop r.n (take k held) ++ (drop k held ++ rest))
+          ∙ ap (λ x. bytes ++ x) (sym (append_assoc (take r.n (take k held)) (drop r.n (take k held)) (drop k held ++ rest))
+          ∙ ap (λ x. x ++ (drop k held ++ rest)) (take-append-drop r.n (take k held))
+          ∙ sym (append_assoc (take k held) (drop k held) rest) ∙ ap (λ x. x ++ rest) (take-append-drop k held))
+          ∙ sym (append_assoc bytes held rest) in
+          subst (λ x. IsRefusedAfter e x []) is a;
+    }
+
+-- what was read of the file header is refused
+pub head-refused :
+    (d : Decoded) (held : List ℕ) (read : ℕ) (before after : Option Told) (more : List ℕ) (e : CapError)
+    → HeadUnread d held read → HeadBad d more e → Takes before after more → length more ≤ 65536 → HeadRefused d before after e
+head-refused d held read before after more e u bad took small = record {
+  more = more;
+  took = took;
+  at_end = λ cut. absurd (bad.not_cut cut);
+  refused = λ bytes h. (bad.refused bytes h, omega (arith, h.taken, u.all, u.few, small, length-append bytes more));
+}
+
+-- nothing was read yet
+pub grown-none : (d : Decoded) (held : List ℕ) (read : ℕ) (told : Option Told) → HeadUnread d held read → HeadGrown d d held read told told
+grown-none d held read told u = record {
+  unread = u;
+  more = [];
+  took = takes-none told;
+  moves = λ bytes h. subst (λ x. HasSummary x [] d.summary) (sym (append-nil bytes)) h;
+}
+
+pub grown-join :
+    (d d' : Decoded) (held' : List ℕ) (read' : ℕ) (d'' : Decoded) (held'' : List ℕ) (read'' : ℕ) (a b c : Option Told)
+    → HeadGrown d d' held' read' a b → HeadGrown d' d'' held'' read'' b c → HeadGrown d d'' held'' read'' a c
+grown-join d d' held' read' d'' held'' read'' a b c p q = record {
+  unread = q.unread;
+  more = p.more ++ q.more;
+  took = takes-join a b c p.more q.more p.took q.took;
+  moves = λ bytes h. subst (λ x. HasSummary x [] d''.summary) (append_assoc bytes p.more q.more) (q.moves (bytes ++ p.more) (p.moves bytes h));
+}
+
+pub found-join :
+    (d d' : Decoded) (held' : List ℕ) (read' : ℕ) (d'' : Decoded) (held'' : List ℕ) (read'' : ℕ) (a b c : Option Told) (h : Head)
+    → HeadGrown d d' held' read' a b → HeadFound d' d'' held'' read'' b c h → HeadFound d d'' held'' read'' a c h
+found-join d d' held' read' d'' held'' read'' a b c h p q = record {
+  order = q.order;
+  head = q.head;
+  count = q.count;
+  more = p.more ++ q.more;
+  took = takes-join a b c p.more q.more p.took q.took;
+  moves = λ bytes s. subst (λ x. Holds d'' held'' x []) (append_assoc bytes p.more q.more) (q.moves (bytes ++ p.more) (p.moves bytes s));
+}
+
+fault-join :
+    (d d' : Decoded) (held' : List ℕ) (read' : ℕ) (a b c : Option Told) → HeadGrown d d' held' read' a b → HeadFault d' b c → HeadFault d a c
+fault-join d d' held' read' a b c p q = record {
+  more = p.more ++ q.more;
+  took = takes-join a b c p.more q.more p.took q.took;
+  few = λ bytes h. subst (λ x. length x < 24) (append_assoc bytes p.more q.more) (q.few (bytes ++ p.more) (p.moves bytes h));
+}
+
+refused-join :
+    (d d' : Decoded) (held' : List ℕ) (read' : ℕ) (a b c : Option Told) (e : CapError)
+    → HeadGrown d d' held' read' a b → HeadRefused d' b c e → HeadRefused d a c e
+refused-join d d' held' read' a b c e p q = record {
+  more = p.more ++ q.more;
+  took = takes-join a b c p.more q.more p.took q.took;
+  at_end = q.at_end;
+  refused = λ bytes h.
+      let w = q.refused (bytes ++ p.more) (p.moves bytes h) in
+      (subst (λ x. AreRefused e x []) (append_assoc bytes p.more q.more) w.0, subst (λ x. length x ≤ most_read) (append_assoc bytes p.more q.more) w.1);
+}
+
+pub fails-join :
+    (d d' : Decoded) (held' : List ℕ) (read' : ℕ) (a b c : Option Told) (e : FileError)
+    → HeadGrown d d' held' read' a b → HeadFails d' b c e → HeadFails d a c e
+fails-join d d' held' read' a b c Missing p q = q
+fails-join d d' held' read' a b c ReadFault p q = fault-join d d' held' read' a b c p q
+fails-join d d' held' read' a b c TooLong p q = q
+fails-join d d' held' read' a b c (Bad e) p q = refused-join d d' held' read' a b c e p q
+fails-join d d' held' read' a b c Memory p q = q
+
+-- the summary of no bytes is that of a new decoder
+new-summary : (d : Decoded) → d ≡ nothing_taken → HasSummary [] [] d.summary
+new-summary d is = subst (λ x. HasSummary [] [] x.summary) (sym is) summary-none
+
+-- a file that was opened, whose header was read
+pub head-opened :
+    (d d' : Decoded) (held' : List ℕ) (read' : ℕ) (before mid after : Option Told) (name : List ℕ) (h : Head)
+    → d ≡ nothing_taken → Opens before mid name → HeadFound d d' held' read' mid after h → Opened (reading_of d' held' read') before after name
+head-opened d d' held' read' before mid after name h is opens f = record {
+  goes_on = refl;
+  count = f.count;
+  short = f.order.short;
+  bytes = f.more;
+  part = part-more before mid after name [] f.more (part-none before mid name opens) f.took;
+  given = holds-given d' held' read' f.more [] f.order (f.moves [] (new-summary d is));
+}
+
+-- a file that was opened, whose header can't be had
+pub head-not_opened :
+    (d : Decoded) (before mid after : Option Told) (name : List ℕ) (e : FileError)
+    → d ≡ nothing_taken → Opens before mid name → HeadFails d mid after e → WhyNotOpened before after name e
+head-not_opened d before mid after name Missing is opens f = absurd f
+head-not_opened d before mid after name ReadFault is opens f = inr (record {
+  bytes = f.more;
+  part = part-more before mid after name [] f.more (part-none before mid name opens) f.took;
+  few = f.few [] (new-summary d is);
+})
+head-not_opened d before mid after name TooLong is opens f = f
+head-not_opened d before mid after name (Bad e) is opens f =
+    let w = f.refused [] (new-summary d is) in
+    let r : RefusesOpen before after name e = record {
+      bytes = f.more;
+      part = part-more before mid after name [] f.more (part-none before mid name opens) f.took;
+      at_end = f.at_end;
+      refused = w.0;
+      short = w.1;
+    } in
+    r
+head-not_opened d before mid after name Memory is opens f = tt

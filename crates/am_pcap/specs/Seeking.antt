@@ -1,0 +1,171 @@
+-- How a capture over a shelf comes to its next record: bytes are read, held, and taken by its decoder.
+use Rattle.std.specs.Prelude.{◌≡◌, ℕ, ◌+◌, ◌*◌, ◌<◌, ◌≤◌, Bool, false, true, List, [], ◌∷◌, ◌++◌, length, Option, Some, None, IsSome}
+use Rattle.am_base.specs.Shelves.{Told, Takes, IsAtEnd}
+use Rattle.am_pcap.specs.Packets.{Packet}
+use Rattle.am_pcap.specs.Captures.{HasSummary}
+use Rattle.am_pcap.specs.Decoded.{Decoded}
+use Rattle.am_pcap.specs.Readings.{Reading, GivesEnd, IsCut, AreRefused, most_read}
+use Rattle.am_pcap.specs.declared.refusal.CapError.{CapError}
+use Rattle.am_pcap.specs.declared.head.Head.{Head}
+use Rattle.am_pcap.specs.declared.capture.FileError.{FileError}
+use Rattle.am_pcap.specs.declared.capture.FileError.TheVariants.{Missing, ReadFault, TooLong, Bad, Memory}
+use Rattle.am_pcap.specs.declared.seeking.Step.{Step}
+use Rattle.am_pcap.specs.declared.seeking.Step.TheVariants.{Waits, Ends, Continues}
+
+-- a capture that goes on: its decoder, what is held and how much was read fit together
+pub record InOrder (d : Decoded) (held : List ℕ) (read : ℕ) : Type 0 where
+  pub clean : d.summary.error ≡ None
+  pub none_waits : d.waiting ≡ None
+  pub all : d.summary.taken + length held ≡ read
+  pub short : read ≤ most_read
+  pub few : 16 * d.summary.count ≤ d.summary.taken
+
+-- what is true of a capture at all times
+pub record IsInOrder (d : Decoded) (held : List ℕ) (h : Head) (read : ℕ) (over : Bool) : Type 0 where
+  pub head : d.summary.head ≡ Some h
+  pub going : over ≡ false → InOrder d held read
+
+-- a capture of these parts
+abbrev pub reading_of : Decoded → List ℕ → ℕ → Reading
+reading_of d held read = record { decoded = d; held = held; read = read; over = false }
+
+-- these bytes were read: those that the decoder took, whose whole records have these packets, and those that are held
+pub record Holds (d : Decoded) (held bytes : List ℕ) (ps : List Packet) : Type 0 where
+  pub taken : List ℕ
+  pub split : bytes ≡ taken ++ held
+  pub summary : HasSummary taken ps d.summary
+
+-- the packet that waits, where one does
+abbrev pub waiting_packets : Option Packet → List Packet
+waiting_packets None = []
+waiting_packets (Some p) = p ∷ []
+
+-- whatever was read and decoded before, it is so now, with these bytes more and with the packet that waits now
+abbrev pub Moves : Decoded → List ℕ → Decoded → List ℕ → List ℕ → Type 0
+Moves d held d' held' more =
+    (bytes : List ℕ) (ps : List Packet) → Holds d held bytes ps → Holds d' held' (bytes ++ more) (ps ++ waiting_packets d'.waiting)
+
+-- the decoder took of what was held: all, or as much as brings a record to wait
+pub record Drains (d : Decoded) (held : List ℕ) (d' : Decoded) (held' : List ℕ) : Type 0 where
+  pub moves : Moves d held d' held' []
+  pub clean : d'.summary.error ≡ None
+  pub head : d'.summary.head ≡ d.summary.head
+  pub all : d'.summary.taken + length held' ≡ d.summary.taken + length held
+  pub few : 16 * d'.summary.count ≤ d'.summary.taken
+  pub same : d'.waiting ≡ None → d'.summary.count ≡ d.summary.count
+  pub risen : IsSome d'.waiting → d'.summary.count ≡ d.summary.count + 1
+  pub none_left : d'.waiting ≡ None → held' ≡ []
+
+-- the decoder refused what was held, behind the packets before: whatever bytes come behind those that were read, they are
+-- refused so
+abbrev pub DrainsTo : Decoded → List ℕ → CapError → Type 0
+DrainsTo d held e = (bytes : List ℕ) (ps : List Packet) → Holds d held bytes ps → AreRefused e bytes ps × (IsCut e → ⊥)
+
+-- why no more bytes could be had
+abbrev pub RefillFails : ℕ → Option Told → Option Told → FileError → Type 0
+RefillFails read before after Missing = ⊥
+RefillFails read before after ReadFault = after ≡ before
+RefillFails read before after TooLong = (more : List ℕ) × Takes before after more × (most_read < read + length more)
+RefillFails read before after (Bad e) = ⊥
+RefillFails read before after Memory = ⊥
+
+-- a capture came from parts to parts by reading these bytes, with nothing given yet
+pub record Continued (d : Decoded) (held : List ℕ) (read : ℕ) (d' : Decoded) (held' : List ℕ) (read' : ℕ) (before after : Option Told) : Type 0 where
+  pub order : InOrder d' held' read'
+  pub head : d'.summary.head ≡ d.summary.head
+  pub count : d'.summary.count ≡ d.summary.count
+  pub more : List ℕ
+  pub took : Takes before after more
+  pub moves : (bytes : List ℕ) (ps : List Packet) → Holds d held bytes ps → Holds d' held' (bytes ++ more) ps
+
+-- a record came to wait
+pub record Found (d : Decoded) (held : List ℕ) (read : ℕ) (d' : Decoded) (held' : List ℕ) (read' : ℕ) (before after : Option Told) : Type 0 where
+  pub clean : d'.summary.error ≡ None
+  pub head : d'.summary.head ≡ d.summary.head
+  pub count : d'.summary.count ≡ d.summary.count + 1
+  pub all : d'.summary.taken + length held' ≡ read'
+  pub short : read' ≤ most_read
+  pub few : 16 * d'.summary.count ≤ d'.summary.taken
+  pub packet : Packet
+  pub waits : d'.waiting ≡ Some packet
+  pub more : List ℕ
+  pub took : Takes before after more
+  pub moves : (bytes : List ℕ) (ps : List Packet) → Holds d held bytes ps → Holds d' held' (bytes ++ more) (ps ++ packet ∷ [])
+
+-- what one step came to
+abbrev pub Steps : Decoded → List ℕ → ℕ → Decoded → List ℕ → ℕ → Option Told → Option Told → Step → Type 0
+Steps d held read d' held' read' before after Waits = Found d held read d' held' read' before after
+Steps d held read d' held' read' before after Ends = GivesEnd (reading_of d held read) before after
+Steps d held read d' held' read' before after Continues = Continued d held read d' held' read' before after × (read < read')
+
+-- what a search came to: a record waits, or the file is at its end
+abbrev pub Sought : Decoded → List ℕ → ℕ → Decoded → List ℕ → ℕ → Option Told → Option Told → Bool → Type 0
+Sought d held read d' held' read' before after false = GivesEnd (reading_of d held read) before after
+Sought d held read d' held' read' before after true = Found d held read d' held' read' before after
+
+-- a decoder that took the first bytes of a file, of which the file header isn't whole, and nothing is held
+pub record HeadUnread (d : Decoded) (held : List ℕ) (read : ℕ) : Type 0 where
+  pub head : d.summary.head ≡ None
+  pub clean : d.summary.error ≡ None
+  pub none_waits : d.waiting ≡ None
+  pub none_held : held ≡ []
+  pub all : d.summary.taken ≡ read
+  pub few : read < 24
+  pub bytes : List ℕ
+  pub summary : HasSummary bytes [] d.summary
+
+-- the decoder took what was missing of the file header, or all that was held
+pub record HeadFed (d : Decoded) (held : List ℕ) (d' : Decoded) (held' : List ℕ) : Type 0 where
+  pub clean : d'.summary.error ≡ None
+  pub none_waits : d'.waiting ≡ None
+  pub count : d'.summary.count ≡ 0
+  pub all : d'.summary.taken + length held' ≡ d.summary.taken + length held
+  pub missing : d'.summary.head ≡ None → (held' ≡ []) × (d'.summary.taken < 24)
+  pub moves : (bytes : List ℕ) → HasSummary bytes [] d.summary → Holds d' held' (bytes ++ held) []
+
+-- the file header is refused
+pub record HeadBad (d : Decoded) (held : List ℕ) (e : CapError) : Type 0 where
+  pub not_cut : IsCut e → ⊥
+  pub refused : (bytes : List ℕ) → HasSummary bytes [] d.summary → AreRefused e (bytes ++ held) []
+
+-- the file header is whole, and is this one
+pub record HeadFound (d d' : Decoded) (held' : List ℕ) (read' : ℕ) (before after : Option Told) (h : Head) : Type 0 where
+  pub order : InOrder d' held' read'
+  pub head : d'.summary.head ≡ Some h
+  pub count : d'.summary.count ≡ 0
+  pub more : List ℕ
+  pub took : Takes before after more
+  pub moves : (bytes : List ℕ) → HasSummary bytes [] d.summary → Holds d' held' (bytes ++ more) []
+
+-- bytes of the file header were read, and it isn't whole yet
+pub record HeadGrown (d d' : Decoded) (held' : List ℕ) (read' : ℕ) (before after : Option Told) : Type 0 where
+  pub unread : HeadUnread d' held' read'
+  pub more : List ℕ
+  pub took : Takes before after more
+  pub moves : (bytes : List ℕ) → HasSummary bytes [] d.summary → HasSummary (bytes ++ more) [] d'.summary
+
+-- a read failed before the file header was whole
+pub record HeadFault (d : Decoded) (before after : Option Told) : Type 0 where
+  pub more : List ℕ
+  pub took : Takes before after more
+  pub few : (bytes : List ℕ) → HasSummary bytes [] d.summary → length (bytes ++ more) < 24
+
+-- the file header isn't whole at the end of the file, or is refused
+pub record HeadRefused (d : Decoded) (before after : Option Told) (e : CapError) : Type 0 where
+  pub more : List ℕ
+  pub took : Takes before after more
+  pub at_end : IsCut e → IsAtEnd after
+  pub refused : (bytes : List ℕ) → HasSummary bytes [] d.summary → AreRefused e (bytes ++ more) [] × (length (bytes ++ more) ≤ most_read)
+
+-- why the file header can't be had
+abbrev pub HeadFails : Decoded → Option Told → Option Told → FileError → Type 0
+HeadFails d before after Missing = ⊥
+HeadFails d before after ReadFault = HeadFault d before after
+HeadFails d before after TooLong = ⊥
+HeadFails d before after (Bad e) = HeadRefused d before after e
+HeadFails d before after Memory = ⊥
+
+-- what one step towards the file header came to
+abbrev pub HeadSteps : Decoded → ℕ → Decoded → List ℕ → ℕ → Option Told → Option Told → Option Head → Type 0
+HeadSteps d read d' held' read' before after None = HeadGrown d d' held' read' before after × (read < read')
+HeadSteps d read d' held' read' before after (Some h) = HeadFound d d' held' read' before after h
