@@ -65,12 +65,12 @@ class Bench:
 
     def run(self, words, output=os.devnull):
         """Nanoseconds and peak bytes of one run."""
-        done = subprocess.run(
-            [self.spawn, output, *words], stdin=subprocess.DEVNULL, stdout=subprocess.PIPE, stderr=subprocess.DEVNULL, text=True
-        )
+        done = subprocess.run([self.spawn, output, *words], stdin=subprocess.DEVNULL, capture_output=True, text=True)
+        if done.returncode != 0:
+            sys.exit(f"bench: can't run {words[0]}: {done.stderr.strip()}")
         took, peak, status = (int(word) for word in done.stdout.split())
         if status != 0:
-            sys.exit(f"bench: {' '.join(words)} ended with status {status}")
+            sys.exit(f"bench: {' '.join(words)} ended with status {status}: {done.stderr.strip()}")
         return took, peak
 
 
@@ -189,18 +189,15 @@ class Measured:
     def row(self, about):
         """The row of the table in README.md."""
         link, show, tcpdump = self.times_cat()
-        counted = [ms(self.tcpdump), f"{tcpdump:.1f}", f"{self.link.took / self.tcpdump.took:.2f}"]
-        cells = [
-            *about,
-            self.pair.name,
-            *(ms(runs) for runs in (self.cat, self.link, self.cat_up, self.show)),
-            counted[0] if self.bench.tcpdump else "-",
-            f"{link:.1f}",
-            f"{show:.1f}",
-            *(counted[1:] if self.bench.tcpdump else ["-", "-"]),
-            mb(self.link),
-            mb(self.show),
-        ]
+        times = [ms(self.cat), ms(self.link), ms(self.show)]
+        ratios = [f"{link:.1f}", f"{show:.1f}"]
+        if self.bench.tcpdump:
+            times.append(ms(self.tcpdump))
+            ratios += [f"{tcpdump:.1f}", f"{self.link.took / self.tcpdump.took:.2f}"]
+        else:
+            times.append("-")
+            ratios += ["-", "-"]
+        cells = [*about, self.pair.name, *times, *ratios, mb(self.link), mb(self.show)]
         return "| " + " | ".join(cell.strip() for cell in cells) + " |"
 
 
