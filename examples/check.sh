@@ -322,10 +322,10 @@ if have gzip; then
 fi
 
 # A capture of this machine's own loopback, where the system lets one be taken: six pings, 64 bytes of each frame.
-if command -v tcpdump >/dev/null && command -v ping >/dev/null; then
+if command -v tcpdump >/dev/null && ping -6 -n -c 1 -W 1 ::1 >/dev/null 2>&1; then
     ping -6 -n -i 0.2 -c 30 ::1 >/dev/null 2>&1 &
     pinging=$!
-    if timeout 8 tcpdump -i lo -c 6 -s 64 -w - 'icmp6 and (ip6[40] == 128 or ip6[40] == 129)' >taken.pcap 2>/dev/null; then
+    if timeout 5 tcpdump -i lo -c 6 -s 64 -w - 'icmp6 and (ip6[40] == 128 or ip6[40] == 129)' >taken.pcap 2>/dev/null; then
         "$altmark" show taken.pcap </dev/null >stdout 2>stderr
         got=$?
         shape='^[1-6] [1-9][0-9]{18} 64 [1-9][0-9]* ip6 =58 - -$'
