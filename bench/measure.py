@@ -32,7 +32,7 @@ class Pair:
 PAIRS = [
     Pair("short", "1,000,000 records, 64 bytes captured of each", ["-n", "1000000", "-s", "64", "-t"], 11),
     Pair("tenfold", "10,000,000 records, 64 bytes captured of each", ["-n", "10000000", "-s", "64"], 3, shown=False),
-    Pair("whole", "1,000,000 records of 1,500 bytes", ["-n", "1000000", "-l", "1500", "-g", "1500", "-s", "1500"], 7, shown=False),
+    Pair("whole", "1,000,000 records of 1,500 bytes", ["-n", "1000000", "-l", "1500", "-g", "1500", "-s", "1500", "-t"], 7),
     Pair(
         "ethernet",
         "100,000 records, 78 bytes captured of each: Ethernet, big-endian, microseconds",
