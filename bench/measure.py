@@ -63,9 +63,9 @@ class Bench:
         self.cat = shutil.which("cat")
         self.tcpdump = find_tcpdump()
 
-    def run(self, words, output=os.devnull):
+    def run(self, words, cwd, output=os.devnull):
         """Nanoseconds and peak bytes of one run."""
-        done = subprocess.run([self.spawn, output, *words], stdin=subprocess.DEVNULL, capture_output=True, text=True)
+        done = subprocess.run([self.spawn, output, *words], cwd=cwd, stdin=subprocess.DEVNULL, capture_output=True, text=True)
         if done.returncode != 0:
             sys.exit(f"bench: can't run {words[0]}: {done.stderr.strip()}")
         took, peak, status = (int(word) for word in done.stdout.split())
@@ -99,13 +99,15 @@ def same(one, other):
     return subprocess.run(["cmp", one, other]).returncode == 0
 
 
+UP, DOWN = "up.pcap", "down.pcap"
+
+
 class Measured:
-    """A pair with its files, and the runs over them."""
+    """A pair with its files, and the runs over them. Programs run in its folder, since a name has at most 255 bytes."""
 
     def __init__(self, bench, pair):
         self.bench, self.pair = bench, pair
         self.folder = os.path.join(bench.folder, pair.name)
-        self.up, self.down = (os.path.join(self.folder, name) for name in ("up.pcap", "down.pcap"))
         self.cat, self.link, self.cat_up, self.show, self.tcpdump = (Runs() for _ in range(5))
 
     def make(self):
@@ -117,12 +119,19 @@ class Measured:
         self.flows = [int(flow) for flow in read(self.folder, "flows").split()]
 
     def remove(self):
-        for path in (self.up, self.down, os.path.join(self.folder, "up.txt")):
+        for name in (UP, DOWN, "up.txt"):
+            path = os.path.join(self.folder, name)
             if os.path.exists(path):
                 os.remove(path)
 
+    def run(self, words, output=os.devnull):
+        return self.bench.run(words, self.folder, output)
+
     def link_words(self, flow):
-        return [self.bench.program, "link", *self.words, str(flow), self.up, self.down]
+        return [self.bench.program, "link", *self.words, str(flow), UP, DOWN]
+
+    def show_words(self):
+        return [self.bench.program, "show", UP]
 
     def table(self, flow):
         return os.path.join(self.folder, f"table-{flow}")
@@ -131,20 +140,20 @@ class Measured:
         """Whether the program prints what captures.c counted, and tcpdump counts as many packets."""
         printed = os.path.join(self.folder, "printed")
         for flow in self.flows:
-            self.bench.run(self.link_words(flow), printed)
+            self.run(self.link_words(flow), printed)
             if not same(printed, self.table(flow)):
                 print(f"  table of flow {flow}: wrong")
                 return False
         blocks = len(read(self.table(self.flows[0])).splitlines()) - 1
         print(f"  tables: right ({len(self.flows)} flows, {blocks} blocks)")
         if self.pair.shown:
-            self.bench.run([self.bench.program, "show", self.up], printed)
+            self.run(self.show_words(), printed)
             if not same(printed, os.path.join(self.folder, "up.txt")):
                 print("  lines of show: wrong")
                 return False
             print("  lines of show: right")
         if self.bench.tcpdump:
-            got = sum(self.count(capture, printed) for capture in (self.up, self.down))
+            got = sum(self.count(capture, printed) for capture in (UP, DOWN))
             rows = [row.split(",") for row in read(self.table(self.flows[0])).splitlines()[1:]]
             wanted = sum(int(row[1]) + int(row[2]) for row in rows)
             print(f"  tcpdump: counts {got:,} packets of the flow" + ("" if got == wanted else f", and not {wanted:,}"))
@@ -155,18 +164,17 @@ class Measured:
         return [self.bench.tcpdump, "--count", "-n", "-r", capture, filter_of(self.flows[0])]
 
     def count(self, capture, printed):
-        self.bench.run(self.tcpdump_words(capture), printed)
+        self.run(self.tcpdump_words(capture), printed)
         return int(read(printed).split()[0])
 
     def measure(self):
-        run = self.bench.run
         for _ in range(self.pair.rounds):
-            self.cat.add(*run([self.bench.cat, self.up, self.down]))
-            self.link.add(*run(self.link_words(self.flows[0])))
-            self.cat_up.add(*run([self.bench.cat, self.up]))
-            self.show.add(*run([self.bench.program, "show", self.up]))
+            self.cat.add(*self.run([self.bench.cat, UP, DOWN]))
+            self.link.add(*self.run(self.link_words(self.flows[0])))
+            self.cat_up.add(*self.run([self.bench.cat, UP]))
+            self.show.add(*self.run(self.show_words()))
             if self.bench.tcpdump:
-                took, peak = zip(*(run(self.tcpdump_words(capture)) for capture in (self.up, self.down)))
+                took, peak = zip(*(self.run(self.tcpdump_words(capture)) for capture in (UP, DOWN)))
                 self.tcpdump.add(sum(took), max(peak))
 
     def times_cat(self):
