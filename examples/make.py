@@ -345,23 +345,36 @@ BROKEN = [
     ("record-big-endian-cut", "file ends in record 1", BIG + record(1, 0, packet(CLEAR), order="big")[:63], ""),
 ]
 
-# Captures that `link` refuses for the headers of record 2: the frame or the Hop-by-Hop header has bytes that weren't
-# captured. The name, the bytes, the lines of `show`, and the line of a refusal further on, which `show` comes to, if any.
-ETHERNET = file_head("little", "micro", "ethernet")
-FRAMED = record(1, 0, frame(packet(CLEAR)))
-FRAMED_SHOWN = GOOD_SHOWN.replace(" 48 48 ", " 62 62 ")
-
-CUT_HEADERS = [
-    ("headers-cut", HEAD + GOOD + record(2, 0, packet(CLEAR)[:44], original=48), GOOD_SHOWN + "2 2000000000 44 48 ip6 cut cut cut\n", ""),
-    ("headers-cut-by-a-byte", HEAD + GOOD + record(2, 0, packet(CLEAR)[:47], original=48), GOOD_SHOWN + "2 2000000000 47 48 ip6 cut cut cut\n", ""),
-    ("headers-cut-of-another-flow", HEAD + GOOD + record(2, 0, packet("fffff000")[:47], original=48), GOOD_SHOWN + "2 2000000000 47 48 ip6 cut cut cut\n", ""),
-    ("headers-cut-in-fixed-header", HEAD + GOOD + record(2, 0, ip6(NONE)[:39], original=40), GOOD_SHOWN + "2 2000000000 39 40 ip6 cut cut cut\n", ""),
-    ("headers-cut-before-file-ends", HEAD + GOOD + record(2, 0, packet(CLEAR)[:44], original=48) + GOOD[:63], GOOD_SHOWN + "2 2000000000 44 48 ip6 cut cut cut\n", "file ends in record 3"),
-    ("packet-not-captured", HEAD + GOOD + record(2, 0, b"", original=48), GOOD_SHOWN + "2 2000000000 0 48 cut\n", ""),
-    ("frame-cut", ETHERNET + FRAMED + record(2, 0, frame(IP4, kind=TYPE_IP4)[:10], original=60), FRAMED_SHOWN + "2 2000000000 10 60 cut\n", ""),
-    ("frame-cut-in-tags", ETHERNET + FRAMED + record(2, 0, frame(packet(CLEAR), tags=SERVICE_TAG + TAG)[:21], original=70), FRAMED_SHOWN + "2 2000000000 21 70 cut\n", ""),
-    ("frame-cut-in-packet", ETHERNET + FRAMED + record(2, 0, frame(packet(CLEAR))[:61], original=62), FRAMED_SHOWN + "2 2000000000 61 62 ip6 cut cut cut\n", ""),
+# Records whose frame or Hop-by-Hop header has bytes that weren't captured, by the name of a file in which one of them stands
+# behind a good one: the bytes, how long it was, and what `show` prints of it. `link` refuses that file, and `show` doesn't.
+CUT_PACKETS = [
+    ("headers-cut", packet(CLEAR)[:44], 48, "ip6 cut cut cut"),
+    ("headers-cut-by-a-byte", packet(CLEAR)[:47], 48, "ip6 cut cut cut"),
+    ("headers-cut-of-another-flow", packet("fffff000")[:47], 48, "ip6 cut cut cut"),
+    ("headers-cut-in-fixed-header", ip6(NONE)[:39], 40, "ip6 cut cut cut"),
+    ("packet-not-captured", b"", 48, "cut"),
 ]
+CUT_FRAMES = [
+    ("frame-cut", frame(IP4, kind=TYPE_IP4)[:10], 60, "cut"),
+    ("frame-cut-in-tags", frame(packet(CLEAR), tags=SERVICE_TAG + TAG)[:21], 70, "cut"),
+    ("frame-cut-in-packet", frame(packet(CLEAR))[:61], 62, "ip6 cut cut cut"),
+]
+
+
+def cut_headers():
+    """Each of these files by name: its bytes, and all that `show` writes of it."""
+    good_frame = file_head("little", "micro", "ethernet") + record(1, 0, frame(packet(CLEAR)))
+    for front, shown, records in [
+        (HEAD + GOOD, GOOD_SHOWN, CUT_PACKETS),
+        (good_frame, GOOD_SHOWN.replace(" 48 48 ", " 62 62 "), CUT_FRAMES),
+    ]:
+        for name, bytes_, original, text in records:
+            capture = front + record(2, 0, bytes_, original=original)
+            yield name, capture, shown + f"2 2000000000 {len(bytes_)} {original} {text}\n"
+    # The same as the first, and the file ends in record 3.
+    name, (_, bytes_, original, text) = "headers-cut-before-file-ends", CUT_PACKETS[0]
+    capture = HEAD + GOOD + record(2, 0, bytes_, original=original) + GOOD[:63]
+    yield name, capture, GOOD_SHOWN + f"2 2000000000 {len(bytes_)} {original} {text}\n" + line(name, "file ends in record 3")
 
 
 def line(name, refusal):
@@ -372,8 +385,8 @@ def bad():
     """Each bad file by name: its bytes, the line that `link` writes of it, and all that `show` writes of it."""
     for name, refusal, bytes_, printed in BROKEN:
         yield name, bytes_, line(name, refusal), printed + line(name, refusal)
-    for name, bytes_, printed, later in CUT_HEADERS:
-        yield name, bytes_, line(name, "headers of record 2 are cut"), printed + (line(name, later) if later else "")
+    for name, bytes_, shown in cut_headers():
+        yield name, bytes_, line(name, "headers of record 2 are cut"), shown
 
 
 def files():
