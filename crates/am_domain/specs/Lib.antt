@@ -1,3 +1,6 @@
 pub mod Values
 pub mod Texts
 pub mod Keys
+pub mod First
+pub mod Tables
+pub mod Entries

@@ -1,8 +1,14 @@
 //! The domain file.
 #![tactic(auto)]
 
+mod entries;
 mod error;
+mod flow;
 mod keys;
+mod link;
+mod node;
 mod table;
 
 pub use error::{DomainError, Key, Part, Repeated};
+pub use flow::Flow;
+pub use node::Node;
