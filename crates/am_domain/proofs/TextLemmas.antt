@@ -1,5 +1,5 @@
 -- What stands at a key, from the text that was read there.
-use Rattle.std.proofs.Common.{◌≡◌, ℕ, List, [], ◌∷◌, Option, Some, None, Bool, false, String, Global, string_bytes, bytes_eq, not, ◌||◌, refl, ap, subst, sym}
+use Rattle.std.proofs.Common.{◌≡◌, ℕ, List, [], ◌∷◌, Option, Some, None, Bool, false, String, Global, string_bytes, bytes_eq, not, ◌||◌, refl, ap, subst}
 use Rattle.std.specs.List.{list_any}
 use Rattle.std.specs.Map.{keys_of}
 use Rattle.toml.specs.View.{members_view}

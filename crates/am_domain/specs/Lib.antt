@@ -4,3 +4,4 @@ pub mod Keys
 pub mod First
 pub mod Tables
 pub mod Entries
+pub mod Fields

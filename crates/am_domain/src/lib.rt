@@ -3,6 +3,7 @@
 
 mod entries;
 mod error;
+mod fields;
 mod flow;
 mod keys;
 mod link;

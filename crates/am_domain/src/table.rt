@@ -1,8 +1,8 @@
 //! What stands at a key of a table.
 
-ghost use Rattle.std.specs.Prelude.{◌≡◌, ℕ, ◌≤◌, List, IfSome, IfNone, IsTrue, ◌↔◌, Option, option_map, option_copied};
+ghost use Rattle.std.specs.Prelude.{◌≡◌, ℕ, ◌≤◌, List, IfSome, IfNone, IsTrue, ◌↔◌, Option, Some, option_map, option_copied};
 ghost use Rattle.std.specs.List.{list_all};
-ghost use Rattle.toml.specs.Data.{Data, get_member};
+ghost use Rattle.toml.specs.Data.{Data, Members, get_member, table as table_data};
 ghost use Rattle.toml.specs.View.{view, table_view};
 ghost use Rattle.am_addr.specs.Bits.{Span};
 ghost use Rattle.am_domain.specs.Texts.{IsName, IsFileName, is_name_byte, is_file_byte, natural, text_of, IsNumberAt, IsNameAt, IsFileNameAt, IsPrefixAt, IsIdAt, IsReadingAt, IsWorkersAt, IsPlaceAt};
@@ -19,8 +19,8 @@ const LATEST: u64 = 4_294_967_296_000_000_000;
 // A flow's number has 20 bits (RFC 9343, section 3).
 const LAST_ID: u64 = 1_048_575;
 
-// The value at a key.
-fn value_at<'a>(table: &'a Table, key: &str) -> Option<&'a Value>
+/// The value at a key.
+pub(crate) fn value_at<'a>(table: &'a Table, key: &str) -> Option<&'a Value>
     ensures { option_map (λ v. view v.now) result ≡ get_member key.now (table_view table.now) }
 {
     table.get(key)
@@ -29,6 +29,8 @@ fn value_at<'a>(table: &'a Table, key: &str) -> Option<&'a Value>
 /// The whole number of 0 or more at a key.
 pub(crate) fn number_at(table: &Table, key: &str) -> Option<u64>
     ensures value { result ≡ natural (get_member key.now (table_view table.now)) }
+    ensures only { IfSome result (λ n. IsNumberAt (get_member key.now (table_view table.now)) n) }
+    ensures none { IfNone result ((n : ℕ) → IsNumberAt (get_member key.now (table_view table.now)) n → ⊥) }
 {
     let Some(value) = value_at(table, key) else {
         return None;
@@ -47,6 +49,20 @@ pub(crate) fn text_at<'a>(table: &'a Table, key: &str) -> Option<&'a str>
         return None;
     };
     value.as_str()
+}
+
+/// The table at a key. None where none stands there.
+pub(crate) fn table_at<'a>(table: &'a Table, key: &str) -> Option<&'a Table>
+    ensures only { IfSome result (λ t. get_member key.now (table_view table.now) ≡ Some (table_data (table_view t.now))) }
+    ensures none { IfNone result ((ms : Members) → get_member key.now (table_view table.now) ≡ Some (table_data ms) → ⊥) }
+{
+    let Some(value) = value_at(table, key) else {
+        return None;
+    };
+    let Some(inner) = value.as_table() else {
+        return None;
+    };
+    Some(inner)
 }
 
 // Whether a name may have the byte.
