@@ -5,3 +5,5 @@ pub mod First
 pub mod Tables
 pub mod Entries
 pub mod Fields
+pub mod Lists
+pub mod Network

@@ -8,8 +8,10 @@ mod flow;
 mod keys;
 mod link;
 mod node;
+mod repeats;
 mod table;
 
 pub use error::{DomainError, Key, Part, Repeated};
 pub use flow::Flow;
+pub use link::Edge;
 pub use node::Node;

@@ -70,3 +70,12 @@ impl Entry for Link {
         Ok(Link { from, to })
     }
 }
+
+/// A link by the numbers of its nodes, which count from 0 as the nodes stand in the file.
+#[derive(Clone, Copy, Debug, PartialEq, Eq)]
+pub struct Edge {
+    /// The node that the link leads from.
+    pub from: u32,
+    /// The node that the link leads to.
+    pub to: u32,
+}
