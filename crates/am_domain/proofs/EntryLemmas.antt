@@ -6,16 +6,10 @@ use Rattle.std.specs.List.{AllZip}
 use Rattle.toml.specs.Data.{Data, Members}
 use Rattle.toml.specs.View.{view}
 use Rattle.toml.specs.declared.value.Value.{Value}
+use Rattle.am_domain.proofs.ListLemmas.{zip_more}
 use Rattle.am_domain.specs.Entries.{IsTableOf, IsBadItem, IsBadAt}
 use Rattle.am_domain.specs.declared.error.Part.{Part}
 use Rattle.am_domain.specs.declared.error.Key.{Key}
-
--- one more at the end of both lists
-pub zip_more : {A B : Type 0} (R : A → B → Type 0) (xs : List A) (ys : List B) (x : A) (y : B) → AllZip R xs ys → R x y → AllZip R (xs ++ x ∷ []) (ys ++ y ∷ [])
-zip_more R [] [] x y all here = (here, tt)
-zip_more R [] (b ∷ ys) x y all here = absurd all
-zip_more R (a ∷ xs) [] x y all here = absurd all
-zip_more R (a ∷ xs) (b ∷ ys) x y all here = (all.0, zip_more R xs ys x y all.1 here)
 
 -- one more item says something
 pub says_more : {X : Type 0} (R : Data → X → Type 0) (items : List Value) (i : ℕ) (v : Value) (xs : List X) (x : X) → i < length items → v ≡ get_or items i v

@@ -7,3 +7,4 @@ pub mod Entries
 pub mod Fields
 pub mod Lists
 pub mod Network
+pub mod Rules

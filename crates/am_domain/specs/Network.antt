@@ -4,8 +4,10 @@ use Rattle.std.specs.List.{list_any}
 use Rattle.am_clock.specs.Times.{Times}
 use Rattle.am_clock.specs.Covered.{StartsIn, EndsIn}
 use Rattle.am_domain.specs.Values.{NodeValue, LinkValue}
-use Rattle.am_domain.specs.Lists.{AllBelow}
+use Rattle.am_domain.specs.Lists.{AllBelow, IsFirstPlace}
 use Rattle.am_domain.specs.declared.link.Edge.{Edge}
+use Rattle.am_domain.specs.declared.error.DomainError.{DomainError}
+use Rattle.am_domain.specs.declared.error.DomainError.TheVariants.{UnknownNode, Memory}
 use Rattle.am_domain.specs.declared.error.Key.{Key}
 use Rattle.am_domain.specs.declared.error.Key.TheVariants.{From, To}
 
@@ -77,3 +79,9 @@ IsFirstBlock times nodes edges first = (block : ℕ) → (first ≤ block) ↔ S
 -- the blocks below this one end within the span of each capture, and no others
 abbrev pub IsEndBlock : Times → List NodeValue → List Edge → ℕ → Type 0
 IsEndBlock times nodes edges end = (block : ℕ) → (block < end) ↔ EndsBelow times nodes edges (length nodes) block
+
+-- what the joining of links answers: the first link with an end that is no node, or want of memory
+abbrev pub TellsLoose : List NodeValue → List LinkValue → DomainError → Type 0
+TellsLoose nodes links (UnknownNode link end) = IsFirstPlace (IsBetween nodes) (IsLoose nodes end) links link
+TellsLoose nodes links Memory = Unit {0}
+TellsLoose nodes links _ = ⊥

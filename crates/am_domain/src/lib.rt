@@ -7,6 +7,7 @@ mod fields;
 mod flow;
 mod keys;
 mod link;
+mod network;
 mod node;
 mod repeats;
 mod table;
