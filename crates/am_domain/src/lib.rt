@@ -1,6 +1,7 @@
 //! The domain file.
 #![tactic(auto)]
 
+mod blocks;
 mod entries;
 mod error;
 mod fields;
