@@ -8,3 +8,4 @@ pub mod Fields
 pub mod Lists
 pub mod Network
 pub mod Rules
+pub mod Domains

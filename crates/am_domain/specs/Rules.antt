@@ -8,6 +8,7 @@ use Rattle.am_domain.specs.Fields.{FieldsValue}
 use Rattle.am_domain.specs.Lists.{AllBelow, IsFirstPlace, DistinctBelow, IsFirstPair}
 use Rattle.am_domain.specs.Network.{IsBetween, IsLoose, Joins, SameEnds, HasLink, IsLone, IsFirstBlock, IsEndBlock}
 use Rattle.am_domain.specs.declared.link.Edge.{Edge}
+use Rattle.am_domain.specs.declared.error.Part.{Part}
 use Rattle.am_domain.specs.declared.error.Part.TheVariants as part
 use Rattle.am_domain.specs.declared.error.Repeated.TheVariants.{FlowName, FlowId, NodeName}
 use Rattle.am_domain.specs.declared.error.DomainError.{DomainError}
@@ -76,8 +77,8 @@ Keeps f ends_are_nodes = Each (IsBetween f.nodes) f.links
 Keeps f ends_differ = Each EndsDiffer f.links
 Keeps f links_differ = AreDistinct SameEnds f.links
 Keeps f nodes_have_links = Each (HasLink f.links) f.nodes
-Keeps f some_block = (edges : List Edge) (first end : ℕ) → IsLaidOut f edges first end → first < end
-Keeps f few_cells = (edges : List Edge) (first end : ℕ) → IsLaidOut f edges first end → length f.flows * (end - first) ≤ 32768
+Keeps f some_block = (edges : List Edge) × (first : ℕ) × (end : ℕ) × IsLaidOut f edges first end × (first < end)
+Keeps f few_cells = (edges : List Edge) × (first : ℕ) × (end : ℕ) × IsLaidOut f edges first end × (length f.flows * (end - first) ≤ 32768)
 
 -- there are too many of a part, and so many
 abbrev pub IsTooMany : ℕ → ℕ → ℕ → Type 0
@@ -130,3 +131,16 @@ pub record IsFirstBroken (f : FieldsValue) (e : DomainError) : Type 0 where
 abbrev pub TellsBroken : FieldsValue → DomainError → Type 0
 TellsBroken f Memory = Unit {0}
 TellsBroken f e = IsFirstBroken f e
+
+-- what the refusal of too many says: the part and how many there are, or want of memory
+abbrev pub TellsMany : Part → ℕ → DomainError → Type 0
+TellsMany at found (TooMany part count) = (part ≡ at) × (count ≡ found)
+TellsMany at found Memory = Unit {0}
+TellsMany at found _ = ⊥
+
+-- what the judging of the blocks answers, over these links
+abbrev pub TellsBlocks : FieldsValue → List Edge → DomainError → Type 0
+TellsBlocks f edges (NoBlock first end) = IsLaidOut f edges first end × (end ≤ first)
+TellsBlocks f edges (TooManyCells count) =
+    (first : ℕ) × (end : ℕ) × IsLaidOut f edges first end × (first < end) × (count ≡ length f.flows * (end - first)) × (32768 < count)
+TellsBlocks f edges _ = ⊥

@@ -2,10 +2,12 @@
 #![tactic(auto)]
 
 mod blocks;
+mod domain;
 mod entries;
 mod error;
 mod fields;
 mod flow;
+mod judge;
 mod keys;
 mod link;
 mod network;
@@ -13,6 +15,7 @@ mod node;
 mod repeats;
 mod table;
 
+pub use domain::Domain;
 pub use error::{DomainError, Key, Part, Repeated};
 pub use flow::Flow;
 pub use link::Edge;
