@@ -9,3 +9,4 @@ pub mod Lists
 pub mod Network
 pub mod Rules
 pub mod Domains
+pub mod Lookups

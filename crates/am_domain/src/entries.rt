@@ -45,7 +45,10 @@ pub(crate) trait Entry: Sized {
 }
 
 /// What the tables of an array say, which has one or more, or its first bad item.
-pub(crate) fn entries<T: Entry + Drop>(alloc: Global, value: Option<&Value>) -> Result<Vec<T>, EntryFault>
+pub(crate) fn entries<T: Entry + Drop>(
+    alloc: Global,
+    value: Option<&Value>,
+) -> Result<Vec<T>, EntryFault>
     ensures ok { IfOk result (λ v. AreEntries T.says (option_map (λ x. view x.now) value.entry) v.items) }
     ensures bad { IfErr result (λ e. TellsEntry T.part T.says (option_map (λ x. view x.now) value.entry) e) }
 {

@@ -63,7 +63,10 @@ pub enum DomainError {
     /// The four numbers of the part `timing` are no timing.
     Timing(TimingError),
     /// There are more nodes, links or flows than a domain may have, with how many there are.
-    TooMany { part: Part, count: u32 },
+    TooMany {
+        part: Part,
+        count: u32,
+    },
     /// Two flows or two nodes have the same name, or two flows the same number.
     Twice {
         what: Repeated,
@@ -71,18 +74,33 @@ pub enum DomainError {
         second: u32,
     },
     /// A link leads from (`From`) or to (`To`) a name that no node has.
-    UnknownNode { link: u32, end: Key },
+    UnknownNode {
+        link: u32,
+        end: Key,
+    },
     /// A link leads from a node to itself.
-    SelfLink { link: u32 },
+    SelfLink {
+        link: u32,
+    },
     /// Two links lead from and to the same nodes.
-    LinkTwice { first: u32, second: u32 },
+    LinkTwice {
+        first: u32,
+        second: u32,
+    },
     /// No link begins or ends at a node.
-    LoneNode { node: u32 },
+    LoneNode {
+        node: u32,
+    },
     /// No block is covered at every node. The first block that begins late enough for each is `first`, and
     /// the blocks that end early enough for each are those below `end`.
-    NoBlock { first: u64, end: u64 },
+    NoBlock {
+        first: u64,
+        end: u64,
+    },
     /// Flows times blocks are more than 32,768.
-    TooManyCells { count: u128 },
+    TooManyCells {
+        count: u128,
+    },
     /// There was no memory.
     Memory,
 }

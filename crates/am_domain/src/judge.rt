@@ -19,7 +19,9 @@ use std::alloc::Global;
 // A network has at most so many nodes, links and flows: a table of counters by node, flow and block stays
 // within memory, and a check of each against each other stays quick.
 const MOST_NODES: usize = 128;
+
 const MOST_LINKS: usize = 1024;
+
 const MOST_FLOWS: usize = 1024;
 
 // A cell is kept for each flow and reported block, at each node.

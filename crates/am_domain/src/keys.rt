@@ -14,7 +14,10 @@ fn is_spelling(part: Part, key: &str) -> bool
 {
     match part {
         Part::Top => matches!(key, "timing" | "marking" | "flow" | "node" | "link"),
-        Part::Timing => matches!(key, "block_ns" | "skew_ns" | "delay_min_ns" | "delay_max_ns"),
+        Part::Timing => matches!(
+            key,
+            "block_ns" | "skew_ns" | "delay_min_ns" | "delay_max_ns"
+        ),
         Part::Marking => matches!(key, "place" | "workers"),
         Part::Flow => matches!(key, "name" | "id" | "source" | "destination"),
         Part::Node => matches!(key, "name" | "capture" | "from_ns" | "until_ns"),

@@ -14,8 +14,10 @@ mod network;
 mod node;
 mod repeats;
 mod table;
+#[cfg(test)]
+mod tests;
 
-pub use domain::Domain;
+pub use domain::{Domain, read_domain};
 pub use error::{DomainError, Key, Part, Repeated};
 pub use flow::Flow;
 pub use link::Edge;

@@ -28,7 +28,11 @@ pub(crate) fn number_of(nodes: &[Node], name: &str) -> Option<u32>
 }
 
 /// The links by the numbers of their nodes, or the first end that is no node.
-pub(crate) fn join_links(alloc: Global, nodes: &[Node], links: &[Link]) -> Result<Vec<Edge>, DomainError>
+pub(crate) fn join_links(
+    alloc: Global,
+    nodes: &[Node],
+    links: &[Link],
+) -> Result<Vec<Edge>, DomainError>
     requires few_nodes { length nodes.now ≤ 128 }
     requires few_links { length links.now ≤ 1024 }
     ensures ok { IfOk result (λ edges. AllZip (Joins nodes.now) links.now edges.items) }

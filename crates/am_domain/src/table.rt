@@ -6,7 +6,6 @@ ghost use Rattle.toml.specs.Data.{Data, Members, get_member, table as table_data
 ghost use Rattle.toml.specs.View.{view, table_view};
 ghost use Rattle.am_addr.specs.Bits.{Span};
 ghost use Rattle.am_domain.specs.Texts.{IsName, IsFileName, is_name_byte, is_file_byte, natural, text_of, IsNumberAt, IsNameAt, IsFileNameAt, IsPrefixAt, IsIdAt, IsReadingAt, IsWorkersAt, IsPlaceAt};
-
 ghost use Rattle.am_ip6.specs.declared.marks.Place.{Place as Kind};
 
 use am_addr::Prefix;
