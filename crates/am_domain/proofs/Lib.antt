@@ -4,3 +4,6 @@ pub mod EntryLemmas
 pub mod BlockLemmas
 pub mod RuleLemmas
 pub mod DomainLemmas
+pub mod FirstAlone
+pub mod FieldAlone
+pub mod RuleAlone
