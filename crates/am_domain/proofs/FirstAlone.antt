@@ -102,7 +102,7 @@ module _ {X : Type 0} (part : Part) (Said : Members → X → Type 0) (right : (
       item_says b.bad r.0 k r.1 b.is_bad
 
 -- items are those of one list alone
-same_items : (ds es : List Data) → items_of ds ≡ items_of es → ds ≡ es
+pub same_items : (ds es : List Data) → items_of ds ≡ items_of es → ds ≡ es
 same_items [] [] e = refl
 same_items [] (d ∷ es) e = cc e
 same_items (d ∷ ds) [] e = cc e

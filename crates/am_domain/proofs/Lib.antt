@@ -7,3 +7,4 @@ pub mod DomainLemmas
 pub mod FirstAlone
 pub mod FieldAlone
 pub mod RuleAlone
+pub mod SaysAlone
