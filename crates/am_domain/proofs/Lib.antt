@@ -1,0 +1,10 @@
+pub mod TextLemmas
+pub mod ListLemmas
+pub mod EntryLemmas
+pub mod BlockLemmas
+pub mod RuleLemmas
+pub mod DomainLemmas
+pub mod FirstAlone
+pub mod FieldAlone
+pub mod RuleAlone
+pub mod SaysAlone

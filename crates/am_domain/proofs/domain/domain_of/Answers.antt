@@ -1,0 +1,16 @@
+use Rattle.std.proofs.Common.{◌≡◌, ◌*◌, ◌-◌, ◌≤◌, length, ap, ◌∙◌, sym, rules, arith}
+use Rattle.am_domain.specs.Domains.{DomainValue, IsMadeOf}
+use Rattle.am_domain.proofs.DomainLemmas.{some_node, lawful}
+use Rattle.am_domain.proofs.domain.domain_of.Goals as goal
+
+pub check_blocks-requires-clause-some : goal.check_blocks-requires-clause-some
+check_blocks-requires-clause-some c = some_node c.requires.0 c.args.fields c.requires.1
+
+pub invariant_of-result : goal.invariant_of-result
+invariant_of-result c =
+    let f = c.args.fields in
+    let b = c.in-Ok-check_blocks.blocks in
+    let made : IsMadeOf f (record { times = c.in-Ok.timing; kind = c.marking.inside.place; workers = c.marking.inside.workers; flows = c.fields.inside.flows.items; nodes = c.fields.inside.nodes.items; links = c.in-Ok-check_ends.edges.items; first = b.0; end = b.1 }) =
+    record { times = search rules; kind = search rules; workers = search rules; flows = search rules; nodes = search rules; laid_out = search rules; kept = search rules } in
+    let few : length c.fields.inside.flows.items * (b.1 - b.0) ≤ 32768 = rw (ap (λ f. f.flows) c.fields.view_is) c.in-Ok-check_blocks.ensures.few in
+    lawful c.requires.0 f _ c.requires.1 made c.in-Ok-check_blocks.ensures.some few

@@ -1,0 +1,99 @@
+-- The domain of a file's bytes, or why they have none.
+use Rattle.std.specs.Prelude.{◌≡◌, ℕ, ◌-◌, ◌*◌, ◌<◌, ◌≤◌, ◌⊎◌, List, length, IsUtf8, Option, Some, Result, Ok, Err}
+use Rattle.toml.specs.Data.{Members}
+use Rattle.toml.specs.Parse.{parse_document}
+use Rattle.am_clock.specs.Times.{Times, IsTiming}
+use Rattle.am_ip6.specs.declared.marks.Place.{Place as Kind}
+use Rattle.am_domain.specs.Values.{FlowValue, NodeValue}
+use Rattle.am_domain.specs.Texts.{IsName, IsFileName}
+use Rattle.am_domain.specs.Network.{IsFirstBlock, IsEndBlock}
+use Rattle.am_domain.specs.Fields.{FieldsValue, Says, IsBadField}
+use Rattle.am_domain.specs.Rules.{Each, AreDistinct, SameFlowName, SameFlowId, SameNodeName, KeepsFirst, IsLaidOut, IsFirstBroken}
+use Rattle.am_domain.specs.declared.link.Edge.{Edge}
+use Rattle.am_domain.specs.declared.error.DomainError.{DomainError}
+use Rattle.am_domain.specs.declared.error.DomainError.TheVariants.{NotToml, BadField, Memory}
+
+-- a domain: its numbers of time, the kind of header that marks stand in, how many workers count, its flows, its nodes, its links by the
+-- numbers of their nodes, and the reported blocks, from `first` on and below `end`
+pub record DomainValue : Type 0 where
+  pub times : Times
+  pub kind : Kind
+  pub workers : ℕ
+  pub flows : List FlowValue
+  pub nodes : List NodeValue
+  pub links : List Edge
+  pub first : ℕ
+  pub end : ℕ
+
+-- what every domain has: see each line
+pub record IsLawful (d : DomainValue) : Type 0 where
+  -- its numbers of time are a timing
+  pub timing : IsTiming d.times
+  -- 1 to 64 workers, and no more flows, nodes and links than there may be
+  pub some_worker : 1 ≤ d.workers
+  pub few_workers : d.workers ≤ 64
+  pub few_flows : length d.flows ≤ 1024
+  pub few_nodes : length d.nodes ≤ 128
+  pub few_links : length d.links ≤ 1024
+  -- names are names, files' names are files' names, and the numbers of flows have 20 bits
+  pub flow_names : Each (λ f. IsName f.name) d.flows
+  pub flow_ids : Each (λ f. f.id ≤ 1048575) d.flows
+  pub node_names : Each (λ n. IsName n.name) d.nodes
+  pub captures : Each (λ n. IsFileName n.capture) d.nodes
+  -- no two flows have the same name or number, and no two nodes the same name
+  pub flow_names_differ : AreDistinct SameFlowName d.flows
+  pub flow_ids_differ : AreDistinct SameFlowId d.flows
+  pub node_names_differ : AreDistinct SameNodeName d.nodes
+  -- each link joins two nodes of the domain
+  pub links_within : Each (λ e. (e.from < length d.nodes) × (e.to < length d.nodes)) d.links
+  -- some block is reported, and not too many for the flows; they are those that every node's capture covers
+  pub some_block : d.first < d.end
+  pub few_cells : length d.flows * (d.end - d.first) ≤ 32768
+  pub starts : IsFirstBlock d.times d.nodes d.links d.first
+  pub ends : IsEndBlock d.times d.nodes d.links d.end
+
+-- the domain has what the file says, which keeps every rule
+pub record IsMadeOf (f : FieldsValue) (d : DomainValue) : Type 0 where
+  pub times : d.times ≡ f.times
+  pub kind : d.kind ≡ f.marking.kind
+  pub workers : d.workers ≡ f.marking.workers
+  pub flows : d.flows ≡ f.flows
+  pub nodes : d.nodes ≡ f.nodes
+  pub laid_out : IsLaidOut f d.links d.first d.end
+  pub kept : KeepsFirst f 13
+
+-- the bytes are UTF-8, and their text is the TOML document of this table
+pub record IsDocument (bytes : List ℕ) (ms : Members) : Type 0 where
+  pub text : IsUtf8 bytes
+  pub parsed : parse_document bytes ≡ Some ms
+
+-- the table says the domain
+pub record IsDomain (ms : Members) (d : DomainValue) : Type 0 where
+  pub fields : FieldsValue
+  pub says : Says ms fields
+  pub made : IsMadeOf fields d
+
+-- the table says something that breaks a rule, and this tells the first
+pub record IsBroken (ms : Members) (e : DomainError) : Type 0 where
+  pub fields : FieldsValue
+  pub says : Says ms fields
+  pub broken : IsFirstBroken fields e
+
+-- the first refusal of the table: a bad field, or else a broken rule
+abbrev pub IsRefusal : Members → DomainError → Type 0
+IsRefusal ms (BadField part index key) = IsBadField ms part index key
+IsRefusal ms e = IsBroken ms e
+
+-- the bytes are no document
+abbrev pub IsNoDocument : List ℕ → Type 0
+IsNoDocument bytes = (ms : Members) → IsDocument bytes ms → ⊥
+
+-- what a refusal says of the bytes: they are no document, or they are one with this first refusal; want of memory says nothing
+abbrev pub TellsRefusal : List ℕ → DomainError → Type 0
+TellsRefusal bytes NotToml = IsNoDocument bytes
+TellsRefusal bytes Memory = Unit {0}
+TellsRefusal bytes e = (ms : Members) × IsDocument bytes ms × IsRefusal ms e
+
+-- the answer is this one, or want of memory
+abbrev pub IsAnswer : Result DomainValue DomainError → Result DomainValue DomainError → Type 0
+IsAnswer result wanted = (result ≡ Err Memory) ⊎ (result ≡ wanted)

@@ -1,0 +1,12 @@
+pub mod Values
+pub mod Texts
+pub mod Keys
+pub mod First
+pub mod Tables
+pub mod Entries
+pub mod Fields
+pub mod Lists
+pub mod Network
+pub mod Rules
+pub mod Domains
+pub mod Lookups

@@ -1,0 +1,87 @@
+-- The network of a domain: its nodes by their names, its links, and the blocks that are covered at every node.
+use Rattle.std.specs.Prelude.{◌≡◌, ◌≢◌, ℕ, ◌<◌, ◌≤◌, ◌⊎◌, ◌==◌, ◌↔◌, if◌then◌else◌, List, length, slice_index_or}
+use Rattle.std.specs.List.{list_any}
+use Rattle.am_clock.specs.Times.{Times}
+use Rattle.am_clock.specs.Covered.{StartsIn, EndsIn}
+use Rattle.am_domain.specs.Values.{NodeValue, LinkValue}
+use Rattle.am_domain.specs.Lists.{AllBelow, IsFirstPlace}
+use Rattle.am_domain.specs.declared.link.Edge.{Edge}
+use Rattle.am_domain.specs.declared.error.DomainError.{DomainError}
+use Rattle.am_domain.specs.declared.error.DomainError.TheVariants.{UnknownNode, Memory}
+use Rattle.am_domain.specs.declared.error.Key.{Key}
+use Rattle.am_domain.specs.declared.error.Key.TheVariants.{From, To}
+
+-- the number of the first node of this name
+pub record IsNumberOf (nodes : List NodeValue) (name : List ℕ) (number : ℕ) : Type 0 where
+  pub within : number < length nodes
+  pub before : AllBelow (λ n. n.name ≢ name) number nodes
+  pub here : (d : NodeValue) → (slice_index_or nodes number d).name ≡ name
+
+-- no node has this name
+abbrev pub IsNoNode : List NodeValue → List ℕ → Type 0
+IsNoNode nodes name = AllBelow (λ n. n.name ≢ name) (length nodes) nodes
+
+-- some node has this name
+abbrev pub IsNode : List NodeValue → List ℕ → Type 0
+IsNode nodes name = (number : ℕ) × IsNumberOf nodes name number
+
+-- both ends of the link are nodes
+abbrev pub IsBetween : List NodeValue → LinkValue → Type 0
+IsBetween nodes link = IsNode nodes link.from × IsNode nodes link.to
+
+-- this end of the link is no node; at `To`, the other one is
+abbrev pub IsLoose : List NodeValue → Key → LinkValue → Type 0
+IsLoose nodes From link = IsNoNode nodes link.from
+IsLoose nodes To link = IsNode nodes link.from × IsNoNode nodes link.to
+IsLoose nodes _ link = ⊥
+
+-- the edge has the numbers of the link's nodes
+pub record Joins (nodes : List NodeValue) (link : LinkValue) (edge : Edge) : Type 0 where
+  pub from : IsNumberOf nodes link.from edge.from
+  pub to : IsNumberOf nodes link.to edge.to
+
+-- two flows or two nodes have the same name, and two links the same ends
+abbrev pub SameEnds : LinkValue → LinkValue → Type 0
+SameEnds a b = (a.from ≡ b.from) × (a.to ≡ b.to)
+
+-- the link begins or ends at a node of this name
+abbrev pub IsAt : List ℕ → LinkValue → Type 0
+IsAt name link = (link.from ≡ name) ⊎ (link.to ≡ name)
+
+-- some link begins or ends at the node
+pub record HasLink (links : List LinkValue) (node : NodeValue) : Type 0 where
+  pub number : ℕ
+  pub within : number < length links
+  pub here : (d : LinkValue) → IsAt node.name (slice_index_or links number d)
+
+-- no link begins or ends at the node
+abbrev pub IsLone : List LinkValue → NodeValue → Type 0
+IsLone links node = AllBelow (λ l. ¬ IsAt node.name l) (length links) links
+
+-- the shift of a node: 0 where no link ends at it, else the least delay (RFC 9341, section 5)
+abbrev pub shift_at : Times → List Edge → ℕ → ℕ
+shift_at times edges number = if list_any (λ e. e.to == number) edges then times.delay_min else 0
+
+-- at each of the first so many nodes, the block's window begins within the span of the capture
+abbrev pub StartsBelow : Times → List NodeValue → List Edge → ℕ → ℕ → Type 0
+StartsBelow times nodes edges count block =
+    (k : ℕ) (d : NodeValue) → k < count → StartsIn times (slice_index_or nodes k d).from (shift_at times edges k) block
+
+-- at each of the first so many nodes, the block's window ends within the span of the capture
+abbrev pub EndsBelow : Times → List NodeValue → List Edge → ℕ → ℕ → Type 0
+EndsBelow times nodes edges count block =
+    (k : ℕ) (d : NodeValue) → k < count → EndsIn times (slice_index_or nodes k d).until (shift_at times edges k) block
+
+-- the blocks from this one on begin within the span of each capture, and no others
+abbrev pub IsFirstBlock : Times → List NodeValue → List Edge → ℕ → Type 0
+IsFirstBlock times nodes edges first = (block : ℕ) → (first ≤ block) ↔ StartsBelow times nodes edges (length nodes) block
+
+-- the blocks below this one end within the span of each capture, and no others
+abbrev pub IsEndBlock : Times → List NodeValue → List Edge → ℕ → Type 0
+IsEndBlock times nodes edges end = (block : ℕ) → (block < end) ↔ EndsBelow times nodes edges (length nodes) block
+
+-- what the joining of links answers: the first link with an end that is no node, or want of memory
+abbrev pub TellsLoose : List NodeValue → List LinkValue → DomainError → Type 0
+TellsLoose nodes links (UnknownNode link end) = IsFirstPlace (IsBetween nodes) (IsLoose nodes end) links link
+TellsLoose nodes links Memory = Unit {0}
+TellsLoose nodes links _ = ⊥

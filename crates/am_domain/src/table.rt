@@ -1,0 +1,225 @@
+//! What stands at a key of a table.
+
+ghost use Rattle.std.specs.Prelude.{◌≡◌, ℕ, ◌≤◌, List, IfSome, IfNone, IsTrue, ◌↔◌, Option, Some, option_map, option_copied};
+ghost use Rattle.std.specs.List.{list_all};
+ghost use Rattle.toml.specs.Data.{Data, Members, get_member, table as table_data};
+ghost use Rattle.toml.specs.View.{view, table_view};
+ghost use Rattle.am_addr.specs.Bits.{Span};
+ghost use Rattle.am_domain.specs.Texts.{IsName, IsFileName, is_name_byte, is_file_byte, natural, text_of, IsNumberAt, IsNameAt, IsFileNameAt, IsPrefixAt, IsIdAt, IsReadingAt, IsWorkersAt, IsPlaceAt};
+ghost use Rattle.am_ip6.specs.declared.marks.Place.{Place as Kind};
+
+use am_addr::Prefix;
+use am_ip6::Place;
+use toml::{Table, Value};
+
+// The latest reading that a capture can have: 2^32 seconds, in nanoseconds.
+const LATEST: u64 = 4_294_967_296_000_000_000;
+
+// A flow's number has 20 bits (RFC 9343, section 3).
+const LAST_ID: u64 = 1_048_575;
+
+/// The value at a key.
+pub(crate) fn value_at<'a>(table: &'a Table, key: &str) -> Option<&'a Value>
+    ensures { option_map (λ v. view v.now) result ≡ get_member key.now (table_view table.now) }
+{
+    table.get(key)
+}
+
+/// The whole number of 0 or more at a key.
+pub(crate) fn number_at(table: &Table, key: &str) -> Option<u64>
+    ensures value { result ≡ natural (get_member key.now (table_view table.now)) }
+    ensures only { IfSome result (λ n. IsNumberAt (get_member key.now (table_view table.now)) n) }
+    ensures none { IfNone result ((n : ℕ) → IsNumberAt (get_member key.now (table_view table.now)) n → ⊥) }
+{
+    let Some(value) = value_at(table, key) else {
+        return None;
+    };
+    match value {
+        Value::Integer(number) => u64::try_from(*number).ok(),
+        _ => None,
+    }
+}
+
+/// The text at a key.
+pub(crate) fn text_at<'a>(table: &'a Table, key: &str) -> Option<&'a str>
+    ensures { option_copied result ≡ text_of (get_member key.now (table_view table.now)) }
+{
+    let Some(value) = value_at(table, key) else {
+        return None;
+    };
+    value.as_str()
+}
+
+/// The table at a key. None where none stands there.
+pub(crate) fn table_at<'a>(table: &'a Table, key: &str) -> Option<&'a Table>
+    ensures only { IfSome result (λ t. get_member key.now (table_view table.now) ≡ Some (table_data (table_view t.now))) }
+    ensures none { IfNone result ((ms : Members) → get_member key.now (table_view table.now) ≡ Some (table_data ms) → ⊥) }
+{
+    let Some(value) = value_at(table, key) else {
+        return None;
+    };
+    let Some(inner) = value.as_table() else {
+        return None;
+    };
+    Some(inner)
+}
+
+// Whether a name may have the byte.
+#[tactic(auto, unfolding(crate::specs::Texts::is_name_byte))]
+fn is_name_byte(byte: u8) -> bool
+    ensures { result ≡ is_name_byte byte }
+{
+    if byte.is_ascii_alphanumeric() {
+        return true;
+    }
+    byte == b'.' || byte == b'_' || byte == b'-'
+}
+
+// Whether a name may have each byte.
+fn has_name_bytes(text: &str) -> bool
+    ensures { result ≡ list_all is_name_byte text.now }
+{
+    text.as_bytes().iter().all(|byte| is_name_byte(*byte))
+}
+
+// Whether the text is a name.
+fn is_name(text: &str) -> bool
+    ensures { IsTrue result ↔ IsName text.now }
+{
+    if text.is_empty() || text.len() > 32 {
+        return false;
+    }
+    has_name_bytes(text)
+}
+
+// Whether a file's name may have the byte.
+#[tactic(auto, unfolding(crate::specs::Texts::is_file_byte))]
+fn is_file_byte(byte: u8) -> bool
+    ensures { result ≡ is_file_byte byte }
+{
+    byte >= 32 && byte != 127
+}
+
+// Whether a file's name may have each byte.
+fn has_file_bytes(text: &str) -> bool
+    ensures { result ≡ list_all is_file_byte text.now }
+{
+    text.as_bytes().iter().all(|byte| is_file_byte(*byte))
+}
+
+// Whether the text is a file's name.
+fn is_file_name(text: &str) -> bool
+    ensures { IsTrue result ↔ IsFileName text.now }
+{
+    if text.is_empty() || text.len() > 255 {
+        return false;
+    }
+    has_file_bytes(text)
+}
+
+/// The name at a key. None where none stands there.
+pub(crate) fn name_at<'a>(table: &'a Table, key: &str) -> Option<&'a str>
+    ensures only { IfSome result (λ s. IsNameAt (get_member key.now (table_view table.now)) s.now) }
+    ensures none { IfNone result ((s : List ℕ) → IsNameAt (get_member key.now (table_view table.now)) s → ⊥) }
+{
+    let Some(text) = text_at(table, key) else {
+        return None;
+    };
+    if !is_name(text) {
+        return None;
+    }
+    Some(text)
+}
+
+/// The name of a file at a key. None where none stands there.
+pub(crate) fn file_name_at<'a>(table: &'a Table, key: &str) -> Option<&'a str>
+    ensures only { IfSome result (λ s. IsFileNameAt (get_member key.now (table_view table.now)) s.now) }
+    ensures none { IfNone result ((s : List ℕ) → IsFileNameAt (get_member key.now (table_view table.now)) s → ⊥) }
+{
+    let Some(text) = text_at(table, key) else {
+        return None;
+    };
+    if !is_file_name(text) {
+        return None;
+    }
+    Some(text)
+}
+
+/// The prefix at a key. None where the text of none stands there.
+pub(crate) fn prefix_at(table: &Table, key: &str) -> Option<Prefix>
+    ensures only { IfSome result (λ p. IsPrefixAt (get_member key.now (table_view table.now)) p) }
+    ensures none { IfNone result ((span : Span) → IsPrefixAt (get_member key.now (table_view table.now)) span → ⊥) }
+{
+    let Some(text) = text_at(table, key) else {
+        return None;
+    };
+    let Some(prefix) = Prefix::parse(text) else {
+        return None;
+    };
+    Some(prefix)
+}
+
+/// The number of a flow at a key. None where none stands there.
+pub(crate) fn id_at(table: &Table, key: &str) -> Option<u32>
+    ensures only { IfSome result (λ n. IsIdAt (get_member key.now (table_view table.now)) n) }
+    ensures none { IfNone result ((n : ℕ) → IsIdAt (get_member key.now (table_view table.now)) n → ⊥) }
+{
+    let Some(number) = number_at(table, key) else {
+        return None;
+    };
+    if number > LAST_ID {
+        return None;
+    }
+    Some(number as u32)
+}
+
+/// The reading at a key, in nanoseconds. None where none stands there.
+pub(crate) fn reading_at(table: &Table, key: &str) -> Option<u64>
+    ensures only { IfSome result (λ n. IsReadingAt (get_member key.now (table_view table.now)) n) }
+    ensures none { IfNone result ((n : ℕ) → IsReadingAt (get_member key.now (table_view table.now)) n → ⊥) }
+{
+    let Some(number) = number_at(table, key) else {
+        return None;
+    };
+    if number > LATEST {
+        return None;
+    }
+    Some(number)
+}
+
+/// The number of workers at a key, which is 1 where nothing stands there. None where it is none.
+pub(crate) fn workers_at(table: &Table, key: &str) -> Option<u32>
+    ensures only { IfSome result (λ n. IsWorkersAt (get_member key.now (table_view table.now)) n) }
+    ensures none { IfNone result ((n : ℕ) → IsWorkersAt (get_member key.now (table_view table.now)) n → ⊥) }
+{
+    if value_at(table, key).is_none() {
+        return Some(1);
+    }
+    let Some(number) = number_at(table, key) else {
+        return None;
+    };
+    if number == 0 {
+        return None;
+    }
+    if number > 64 {
+        return None;
+    }
+    Some(number as u32)
+}
+
+/// The kind of header at a key. None where none stands there.
+pub(crate) fn place_at(table: &Table, key: &str) -> Option<Place>
+    ensures only { IfSome result (λ p. IsPlaceAt (get_member key.now (table_view table.now)) p) }
+    ensures none { IfNone result ((p : Kind) → IsPlaceAt (get_member key.now (table_view table.now)) p → ⊥) }
+{
+    let Some(text) = text_at(table, key) else {
+        return None;
+    };
+    if text == "hop-by-hop" {
+        return Some(Place::HopByHop);
+    }
+    if text == "destination" {
+        return Some(Place::Destination);
+    }
+    None
+}

@@ -1,0 +1,250 @@
+//! Rows of the domain file: what is accepted, and one text for each refusal.
+
+use crate::{Domain, DomainError, Edge, Key, Part, Repeated, read_domain};
+use am_addr::parse;
+use am_clock::TimingError;
+use am_ip6::Place;
+use std::alloc::Global;
+use std::test::Fail;
+
+// Two nodes and a link: the domain of examples/two.
+const TWO: &str = "[timing]
+block_ns = 10000000000
+skew_ns = 1000000
+delay_min_ns = 0
+delay_max_ns = 500000000
+
+[marking]
+place = \"hop-by-hop\"
+
+[[flow]]
+name = \"voice\"
+id = 74565
+source = \"2001:db8:1::/48\"
+destination = \"2001:db8:2::/48\"
+
+[[node]]
+name = \"a\"
+capture = \"u.pcap\"
+from_ns = 0
+until_ns = 40000000000
+
+[[node]]
+name = \"b\"
+capture = \"v.pcap\"
+from_ns = 0
+until_ns = 40000000000
+
+[[link]]
+from = \"a\"
+to = \"b\"
+";
+
+// The domain of the text with each place of some text replaced.
+fn changed(alloc: Global, old: &str, new: &str) -> Result<Result<Domain, DomainError>, Fail> {
+    let text = TWO.replace(alloc, old, new)?;
+    read(alloc, text.as_str())
+}
+
+fn read(alloc: Global, text: &str) -> Result<Result<Domain, DomainError>, Fail> {
+    if text.len() > 1_048_576 {
+        return Err(Fail::from("a text above the limit"));
+    }
+    Ok(read_domain(alloc, text.as_bytes()))
+}
+
+#[test]
+fn two_nodes_and_a_link(rt: HostRuntime) -> Result<(), Fail> {
+    let domain = changed(rt.alloc(), "", "")?.expect(&rt, "a domain");
+    assert_eq!(rt; domain.timing().block(), 10_000_000_000);
+    assert_eq!(rt; domain.timing().delay_max(), 500_000_000);
+    assert_eq!(rt; domain.place(), Place::HopByHop);
+    assert_eq!(rt; domain.workers(), 1);
+    assert_eq!(rt; (domain.first(), domain.end()), (0, 3));
+    assert_eq!(rt; domain.edges(), [Edge { from: 0, to: 1 }].as_slice());
+    assert_eq!(rt; domain.flows().len(), 1);
+    assert_eq!(rt; domain.flows()[0].name(), "voice");
+    assert_eq!(rt; domain.flows()[0].id(), 74_565);
+    assert_eq!(rt; domain.flows()[0].source().length(), 48);
+    assert_eq!(rt;
+        domain.flows()[0].destination().base(),
+        parse("2001:db8:2::").ok_or("an address")?
+    );
+    assert_eq!(rt; domain.nodes().len(), 2);
+    assert_eq!(rt; domain.nodes()[1].name(), "b");
+    assert_eq!(rt; domain.nodes()[1].capture(), "v.pcap");
+    assert_eq!(rt; domain.nodes()[1].from(), 0);
+    assert_eq!(rt; domain.nodes()[1].until(), 40_000_000_000);
+    Ok(())
+}
+
+#[test]
+fn each_refusal(rt: HostRuntime) -> Result<(), Fail> {
+    let alloc = rt.alloc();
+    for (old, new, wanted) in [
+        ("[timing]", "[timing", DomainError::NotToml),
+        (
+            "id = 74565",
+            "id = 1048576",
+            bad(Part::Flow, Some(0), Some(Key::Id)),
+        ),
+        (
+            "[marking]",
+            "colour = 1\n[marking]",
+            bad(Part::Timing, None, Some(Key::Unknown)),
+        ),
+        (
+            "block_ns = 10000000000",
+            "block_ns = 9",
+            DomainError::Timing(TimingError::OddBlock),
+        ),
+        (
+            "skew_ns = 1000000",
+            "skew_ns = 4500000000",
+            DomainError::Timing(TimingError::GuardTooWide {
+                guard: 5_000_000_000,
+                half: 5_000_000_000,
+            }),
+        ),
+        (
+            "name = \"b\"",
+            "name = \"a\"",
+            DomainError::Twice {
+                what: Repeated::NodeName,
+                first: 0,
+                second: 1,
+            },
+        ),
+        (
+            "to = \"b\"",
+            "to = \"c\"",
+            DomainError::UnknownNode {
+                link: 0,
+                end: Key::To,
+            },
+        ),
+        (
+            "to = \"b\"",
+            "to = \"a\"",
+            DomainError::SelfLink { link: 0 },
+        ),
+        (
+            "[[link]]\n",
+            "[[link]]\nfrom = \"a\"\nto = \"b\"\n[[link]]\n",
+            DomainError::LinkTwice {
+                first: 0,
+                second: 1,
+            },
+        ),
+        (
+            "[[link]]",
+            "[[node]]\nname = \"c\"\ncapture = \"w.pcap\"\nfrom_ns = 0\nuntil_ns = 40000000000\n[[link]]",
+            DomainError::LoneNode { node: 2 },
+        ),
+        (
+            "until_ns = 40000000000",
+            "until_ns = 14999999999",
+            DomainError::NoBlock { first: 0, end: 0 },
+        ),
+        (
+            "until_ns = 40000000000",
+            "until_ns = 327695000000000",
+            DomainError::TooManyCells { count: 32_769 },
+        ),
+    ] {
+        let found = changed(alloc, old, new)?;
+        assert_eq!(rt; found.err(), Some(wanted), "{new}");
+    }
+    Ok(())
+}
+
+fn bad(part: Part, index: Option<u32>, key: Option<Key>) -> DomainError {
+    DomainError::BadField { part, index, key }
+}
+
+#[test]
+fn parts_and_keys_are_looked_at_in_order(rt: HostRuntime) -> Result<(), Fail> {
+    let alloc = rt.alloc();
+    for (text, wanted) in [
+        ("", bad(Part::Timing, None, None)),
+        ("timing = []", bad(Part::Timing, None, None)),
+        (
+            "[timing]\nx = 1",
+            bad(Part::Timing, None, Some(Key::BlockNs)),
+        ),
+        (
+            "timing = { block_ns = 2, skew_ns = 1.0 }",
+            bad(Part::Timing, None, Some(Key::SkewNs)),
+        ),
+        (
+            "timing = { block_ns = 2, skew_ns = 0, delay_min_ns = -1 }",
+            bad(Part::Timing, None, Some(Key::DelayMinNs)),
+        ),
+        (
+            "timing = { block_ns = 2, skew_ns = 0, delay_min_ns = +5, delay_max_ns = -0 }",
+            bad(Part::Marking, None, None),
+        ),
+    ] {
+        assert_eq!(rt; read(alloc, text)?.err(), Some(wanted), "{text}");
+    }
+    for (old, new, wanted) in [
+        (
+            "place = \"hop-by-hop\"",
+            "place = \"routing\"",
+            bad(Part::Marking, None, Some(Key::Place)),
+        ),
+        (
+            "\"hop-by-hop\"",
+            "\"destination\"\nworkers = 65",
+            bad(Part::Marking, None, Some(Key::Workers)),
+        ),
+        ("[[flow]]", "[flow]", bad(Part::Flow, None, None)),
+        ("[timing]", "flow = 1\n[timing]", DomainError::NotToml),
+        ("[[node]]", "[[knot]]", bad(Part::Node, None, None)),
+        (
+            "\"voice\"",
+            "\"voice mail\"",
+            bad(Part::Flow, Some(0), Some(Key::Name)),
+        ),
+        (
+            "2001:db8:2::/48",
+            "2001:db8:2::",
+            bad(Part::Flow, Some(0), Some(Key::Destination)),
+        ),
+        (
+            "\"v.pcap\"",
+            "\"\"",
+            bad(Part::Node, Some(1), Some(Key::Capture)),
+        ),
+        (
+            "from_ns = 0",
+            "from_ns = 4294967296000000001",
+            bad(Part::Node, Some(0), Some(Key::FromNs)),
+        ),
+        (
+            "from = \"a\"",
+            "from = 1",
+            bad(Part::Link, Some(0), Some(Key::From)),
+        ),
+        (
+            "[timing]",
+            "top = 1\n[timing]",
+            bad(Part::Top, None, Some(Key::Unknown)),
+        ),
+    ] {
+        assert_eq!(rt; changed(alloc, old, new)?.err(), Some(wanted), "{new}");
+    }
+    Ok(())
+}
+
+#[test]
+fn as_many_cells_as_there_may_be(rt: HostRuntime) -> Result<(), Fail> {
+    let found = changed(
+        rt.alloc(),
+        "until_ns = 40000000000",
+        "until_ns = 327685000000000",
+    )?;
+    let domain = found.expect(&rt, "a domain");
+    assert_eq!(rt; (domain.first(), domain.end()), (0, 32_768));
+    Ok(())
+}
