@@ -19,7 +19,7 @@ use Rattle.am_cli.specs.Tables.{count_in}
 use Rattle.am_cli.specs.Link.{IsTaken, IsRefused, IsRefusedFirst, IsFileStop, TakesFile}
 use Rattle.am_cli.specs.Shown.{stop_of_file}
 use Rattle.am_cli.specs.Stops.{Refusal, refusal_status}
-use Rattle.am_cli.specs.Stops.Refusal.{Missing, TooLong, BadCapture, HeadersCut}
+use Rattle.am_cli.specs.Stops.Refusal.{Missing, TooLong, BadCapture, HeadersCut, BadDomain}
 use Rattle.am_cli.specs.Stops.Stop.{Refused}
 use Rattle.am_cli.proofs.CaptureLemmas.{not-cut_headers}
 use Rattle.am_cli.proofs.ReadLemmas.{ReadsOn, reads-end, reads-refused, reads-long, reads-begins, open-refused, both-heads, one_file}
@@ -58,6 +58,7 @@ not_refused files name ms (BadCapture a error) t q =
 not_refused files name ms (HeadersCut a number) t q =
     let e : q.1.0 ≡ t.bytes = one_file files name q.1.0 t.bytes q.1.1 t.there in
     not-cut_headers t.bytes t.head t.packets ms number t.capture t.marked (subst (λ bytes. CutsHeaders bytes number) e q.1.2)
+not_refused files name ms (BadDomain a e) t q = q
 
 -- the refusals of a file have one status
 pub refused_alike : (files : List File) (name : List ℕ) (r s : Refusal) → IsRefused files name r → IsRefused files name s → refusal_status r ≡ refusal_status s
@@ -65,18 +66,23 @@ refused_alike files name (Missing a) (Missing b) p q = refl
 refused_alike files name (Missing a) (TooLong b) p q = absurd (cc (p.1, q.1.1))
 refused_alike files name (Missing a) (BadCapture b e) p q = absurd (cc (p.1, q.1.1))
 refused_alike files name (Missing a) (HeadersCut b k) p q = absurd (cc (p.1, q.1.1))
+refused_alike files name (Missing a) (BadDomain b e) p q = absurd q
 refused_alike files name (TooLong a) (Missing b) p q = absurd (cc (p.1.1, q.1))
 refused_alike files name (TooLong a) (TooLong b) p q = refl
 refused_alike files name (TooLong a) (BadCapture b e) p q = refl
 refused_alike files name (TooLong a) (HeadersCut b k) p q = refl
+refused_alike files name (TooLong a) (BadDomain b e) p q = absurd q
 refused_alike files name (BadCapture a d) (Missing b) p q = absurd (cc (p.1.1, q.1))
 refused_alike files name (BadCapture a d) (TooLong b) p q = refl
 refused_alike files name (BadCapture a d) (BadCapture b e) p q = refl
 refused_alike files name (BadCapture a d) (HeadersCut b k) p q = refl
+refused_alike files name (BadCapture a d) (BadDomain b e) p q = absurd q
 refused_alike files name (HeadersCut a j) (Missing b) p q = absurd (cc (p.1.1, q.1))
 refused_alike files name (HeadersCut a j) (TooLong b) p q = refl
 refused_alike files name (HeadersCut a j) (BadCapture b e) p q = refl
 refused_alike files name (HeadersCut a j) (HeadersCut b k) p q = refl
+refused_alike files name (HeadersCut a j) (BadDomain b e) p q = absurd q
+refused_alike files name (BadDomain a d) s p q = absurd p
 
 -- why a capture was not opened is why the reading of its file stops
 pub open_stops :

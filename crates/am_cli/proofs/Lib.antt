@@ -7,3 +7,5 @@ pub mod RunLemmas
 pub mod LinkLemmas
 pub mod ShowLemmas
 pub mod ShowSteps
+pub mod LineLemmas
+pub mod CheckLemmas

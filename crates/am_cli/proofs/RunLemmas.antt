@@ -1,15 +1,16 @@
 -- What the words say, what a command prints and what is refused are one.
-use Rattle.std.proofs.Common.{◌≡◌, ℕ, List, length, Option, Some, None, ap, sym, ◌∙◌, subst, inl, inr, arith}
+use Rattle.std.proofs.Common.{◌≡◌, ℕ, List, [], ◌∷◌, codes, length, Option, Some, None, ap, sym, ◌∙◌, subst, inl, inr, arith}
 use Rattle.std.specs.Prelude.{◌⊎◌, Result, Ok, Err, IfErr}
 use Rattle.am_base.specs.Shelves.{File, Told, OnTold}
 use Rattle.am_cli.specs.Commands.{Link, Command, Says, SaysLink, IsNoCommand}
-use Rattle.am_cli.specs.Commands.Command.{Linking, Showing}
+use Rattle.am_cli.specs.Commands.Command.{Linking, Showing, Checking}
 use Rattle.am_cli.specs.Link.{LinkRefusal, IsLinkProduct}
 use Rattle.am_cli.specs.Runs.{IsProduct, IsFirstRefusal, IsStopOf, IsBorneOut, IsToldAs, Leaves, LeavesOf, Prints, Refuses, Completes}
 use Rattle.am_cli.specs.Stops.{Refusal, Stop, refusal_status, stop_status}
-use Rattle.am_cli.specs.Stops.Refusal.{Missing, TooLong, BadCapture, HeadersCut}
+use Rattle.am_cli.specs.Stops.Refusal.{Missing, TooLong, BadCapture, HeadersCut, BadDomain}
 use Rattle.am_cli.specs.Stops.Stop.{NoCommand, Refused, ReadFault, WriteFault, NoMemory}
 use Rattle.am_cli.proofs.FileLemmas.{not_refused, refused_alike}
+use Rattle.am_cli.proofs.CheckLemmas.{check_refused_alike, check_not_refused}
 use Rattle.am_cli.proofs.ShowLemmas.{show_refused_alike, show_not_refused, show_named_leaves}
 
 -- the words of `link` by their parts
@@ -29,6 +30,12 @@ says_one words l k s t =
     ∙ ap (λ x. made k.block k.shift x l.up l.down) flow ∙ ap (λ x. made k.block k.shift k.flow x l.down) up
     ∙ ap (λ x. made k.block k.shift k.flow k.up x) down
 
+-- `show` is not `check`
+other_words : (a b : List ℕ) → codes "show" ∷ a ∷ [] ≡ codes "check" ∷ b ∷ [] → ⊥
+other_words a b e =
+    let first : codes "show" ≡ codes "check" = cc (e) in
+    let long : length (codes "show") ≡ length (codes "check") = ap length first in absurd (omega (arith, long))
+
 pub says_once : (words : List (List ℕ)) (c d : Command) → Says words c → Says words d → c ≡ d
 says_once words (Linking l) (Linking k) s t = ap Linking (says_one words l k s t)
 says_once words (Linking l) (Showing k) s t = let same = sym s.spelled ∙ t.spelled in absurd (cc same)
@@ -36,6 +43,13 @@ says_once words (Showing l) (Linking k) s t = let same = sym s.spelled ∙ t.spe
 says_once words (Showing l) (Showing k) s t =
     let same : l.file ≡ k.file = cc (sym s.spelled ∙ t.spelled) in
     ap (λ f. Showing (record { file = f })) same
+says_once words (Linking l) (Checking k) s t = let same = sym s.spelled ∙ t.spelled in absurd (cc same)
+says_once words (Checking l) (Linking k) s t = let same = sym s.spelled ∙ t.spelled in absurd (cc same)
+says_once words (Showing l) (Checking k) s t = absurd (other_words (l.file) (k.file) (sym s.spelled ∙ t.spelled))
+says_once words (Checking l) (Showing k) s t = absurd (other_words (k.file) (l.file) (sym t.spelled ∙ s.spelled))
+says_once words (Checking l) (Checking k) s t =
+    let same : l.file ≡ k.file = cc (sym s.spelled ∙ t.spelled) in
+    ap (λ f. Checking (record { file = f })) same
 
 -- the first refusals of `link` have one status
 link_refused_alike : (files : List File) (l : Link) (r s : Refusal) → LinkRefusal files l r → LinkRefusal files l s → refusal_status r ≡ refusal_status s
@@ -62,10 +76,12 @@ link_not_refused files l text r p q =
 pub first_alike : (files : List File) (c : Command) (r s : Refusal) → IsFirstRefusal files c r → IsFirstRefusal files c s → refusal_status r ≡ refusal_status s
 first_alike files (Linking l) r s = link_refused_alike files l r s
 first_alike files (Showing s) r q = show_refused_alike files s r q
+first_alike files (Checking c) r q = check_refused_alike files c r q
 
 pub product_not_refused : (files : List File) (c : Command) (text : List ℕ) (r : Refusal) → IsProduct files c text → IsFirstRefusal files c r → ⊥
 product_not_refused files (Linking l) text r = link_not_refused files l text r
 product_not_refused files (Showing s) text r = show_not_refused files s text r
+product_not_refused files (Checking c) text r = check_not_refused files c text r
 
 -- a fact of the value of an `Err`
 pub err_more : {T E : Type 0} {P Q : E → Type 0} (r : Result T E) → ((e : E) → P e → Q e) → IfErr r P → IfErr r Q
@@ -94,10 +110,12 @@ told_borne_out words told NoMemory s e h = subst (λ x. IsBorneOut words told x)
 named_leaves : (told : Option Told) (c : Command) (r : Refusal) (printed : List ℕ) → Leaves told c (Refused r) printed → Leaves told c NoMemory printed
 named_leaves told (Linking l) r printed h = h
 named_leaves told (Showing s) r printed h = show_named_leaves told s r printed h
+named_leaves told (Checking c) r printed h = h
 
 fault_leaves : (told : Option Told) (c : Command) (name printed : List ℕ) → Leaves told c (ReadFault name) printed → Leaves told c NoMemory printed
 fault_leaves told (Linking l) name printed h = h
 fault_leaves told (Showing s) name printed h = h
+fault_leaves told (Checking c) name printed h = h
 
 -- and so of what is told of it
 pub told_leaves : (words : List (List ℕ)) (told : Option Told) (stop s : Stop) (printed : List ℕ) → IsToldAs stop s → LeavesOf words told stop printed → LeavesOf words told s printed
@@ -124,6 +142,7 @@ two_exactly words told (Refused (Missing name)) status e h = (λ two. absurd (om
 two_exactly words told (Refused (TooLong name)) status e h = (λ two. absurd (omega arith), λ unsaid. absurd (unsaid h.0 h.1))
 two_exactly words told (Refused (BadCapture name error)) status e h = (λ two. absurd (omega arith), λ unsaid. absurd (unsaid h.0 h.1))
 two_exactly words told (Refused (HeadersCut name number)) status e h = (λ two. absurd (omega arith), λ unsaid. absurd (unsaid h.0 h.1))
+two_exactly words told (Refused (BadDomain name error)) status e h = (λ two. absurd (omega arith), λ unsaid. absurd (unsaid h.0 h.1))
 two_exactly words told (ReadFault name) status e h = (λ two. absurd (omega arith), λ unsaid. absurd (unsaid h.0 h.1))
 two_exactly words told WriteFault status e h = (λ two. absurd (omega arith), λ unsaid. absurd (unsaid h.0 h.1))
 two_exactly words told NoMemory status e h = (λ two. absurd (omega arith), λ unsaid. absurd (unsaid h.0 h.1))
@@ -154,6 +173,7 @@ printed_refuses words (Some t) old new h = λ c r says first.
 pub no_command_by_length : (words : List (List ℕ)) → (length words ≡ 2 → ⊥) → (length words ≡ 6 → ⊥) → IsNoCommand words
 no_command_by_length words two six (Linking l) says = six (ap length says.spelled)
 no_command_by_length words two six (Showing s) says = two (ap length says.spelled)
+no_command_by_length words two six (Checking c) says = two (ap length says.spelled)
 
 -- where no file is refused and nothing failed, a stop is for want of memory
 completes_stop :

@@ -18,7 +18,7 @@ use Rattle.am_cli.specs.Runs.{IsStopOf}
 use Rattle.am_cli.specs.Show.{ShowRefusal, IsShowProduct, ShowsBefore, ShowsFront, ShowLeaves}
 use Rattle.am_cli.specs.Shown.{stop_of_file}
 use Rattle.am_cli.specs.Stops.{Refusal, refusal_status}
-use Rattle.am_cli.specs.Stops.Refusal.{Missing, TooLong, BadCapture, HeadersCut}
+use Rattle.am_cli.specs.Stops.Refusal.{Missing, TooLong, BadCapture, HeadersCut, BadDomain}
 use Rattle.am_cli.specs.Stops.Stop.{Refused, NoMemory}
 use Rattle.am_cli.proofs.FileLemmas.{told_more, told_both, not-refused_in}
 use Rattle.am_cli.proofs.ReadLemmas.{ReadsOn, reads-end, reads-refused, reads-long, reads-begins, open-refused, begins-append, both-heads, one_file}
@@ -29,15 +29,19 @@ show_refused_alike files s (Missing a) (Missing b) p q = refl
 show_refused_alike files s (Missing a) (TooLong b) p q = absurd (cc (p.1, q.1.1))
 show_refused_alike files s (Missing a) (BadCapture b e) p q = absurd (cc (p.1, q.1.2))
 show_refused_alike files s (Missing a) (HeadersCut b k) p q = absurd q
+show_refused_alike files s (Missing a) (BadDomain b e) p q = absurd q
 show_refused_alike files s (TooLong a) (Missing b) p q = absurd (cc (p.1.1, q.1))
 show_refused_alike files s (TooLong a) (TooLong b) p q = refl
 show_refused_alike files s (TooLong a) (BadCapture b e) p q = refl
 show_refused_alike files s (TooLong a) (HeadersCut b k) p q = absurd q
+show_refused_alike files s (TooLong a) (BadDomain b e) p q = absurd q
 show_refused_alike files s (BadCapture a d) (Missing b) p q = absurd (cc (p.1.2, q.1))
 show_refused_alike files s (BadCapture a d) (TooLong b) p q = refl
 show_refused_alike files s (BadCapture a d) (BadCapture b e) p q = refl
 show_refused_alike files s (BadCapture a d) (HeadersCut b k) p q = absurd q
+show_refused_alike files s (BadCapture a d) (BadDomain b e) p q = absurd q
 show_refused_alike files s (HeadersCut a j) q p r = absurd p
+show_refused_alike files s (BadDomain a d) q p r = absurd p
 
 -- what is printed was not refused
 pub show_not_refused : (files : List File) (s : Show) (text : List ℕ) (r : Refusal) → IsShowProduct files s text → ShowRefusal files s r → ⊥
@@ -49,6 +53,7 @@ show_not_refused files s text (BadCapture a error) t q =
     let e : q.1.0 ≡ t.bytes = one_file files s.file q.1.0 t.bytes q.1.2 t.file in
     not-refused_in t.bytes t.head t.packets error q.1.1 t.capture (subst (λ bytes. IsRefusedIn bytes error q.1.1) e q.1.3)
 show_not_refused files s text (HeadersCut a k) t q = q
+show_not_refused files s text (BadDomain a e) t q = q
 
 -- where nothing was printed
 pub show_none_leaves : (told : Option Told) (s : Show) (printed : List ℕ) → printed ≡ [] → ShowLeaves told s NoMemory printed
@@ -78,6 +83,7 @@ show_named_leaves told s (Missing name) printed h = show_none_leaves told s prin
 show_named_leaves told s (TooLong name) printed h = h
 show_named_leaves told s (BadCapture name e) printed h = told_more told (λ t x. before_is_front t.files s e printed x) h
 show_named_leaves told s (HeadersCut name number) printed h = absurd h
+show_named_leaves told s (BadDomain name e) printed h = absurd h
 
 -- the lines of the records that were given are a front of what is printed
 pub reads_front :

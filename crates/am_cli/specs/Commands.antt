@@ -15,10 +15,15 @@ pub record Link : Type 0 where
 pub record Show : Type 0 where
   pub file : List ℕ
 
+-- `check`: the domain file that is checked
+pub record Check : Type 0 where
+  pub file : List ℕ
+
 -- a command of the program
 pub data Command : Type 0 where
   Linking : Link → Command
   Showing : Show → Command
+  Checking : Check → Command
 
 -- a word writes a number
 pub record Writes (word : List ℕ) (number : ℕ) : Type 0 where
@@ -62,10 +67,16 @@ pub record SaysShow (words : List (List ℕ)) (s : Show) : Type 0 where
   pub spelled : words ≡ codes "show" ∷ s.file ∷ []
   pub file_name : IsFileName s.file
 
+-- words are `check DOMAIN`, and say this
+pub record SaysCheck (words : List (List ℕ)) (c : Check) : Type 0 where
+  pub spelled : words ≡ codes "check" ∷ c.file ∷ []
+  pub file_name : IsFileName c.file
+
 -- words are this command
 abbrev pub Says : List (List ℕ) → Command → Type 0
 Says words (Linking l) = SaysLink words l
 Says words (Showing s) = SaysShow words s
+Says words (Checking c) = SaysCheck words c
 
 -- words are no command
 abbrev pub IsNoCommand : List (List ℕ) → Type 0
@@ -75,3 +86,4 @@ IsNoCommand words = (c : Command) → Says words c → ⊥
 abbrev pub file_names : Command → List (List ℕ)
 file_names (Linking l) = l.up ∷ l.down ∷ []
 file_names (Showing s) = s.file ∷ []
+file_names (Checking c) = c.file ∷ []

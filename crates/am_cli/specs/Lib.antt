@@ -2,10 +2,13 @@ pub mod Commands
 pub mod CaptureFiles
 pub mod Marked
 pub mod Tables
+pub mod DomainTexts
 pub mod Stops
 pub mod Link
 pub mod Lines
 pub mod Show
+pub mod Check
+pub mod Checking
 pub mod Runs
 pub mod Shown
 pub mod Tallies

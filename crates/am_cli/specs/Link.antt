@@ -14,7 +14,7 @@ use Rattle.am_cli.specs.Marked.{Marked, AreMarked, CutsHeaders}
 use Rattle.am_cli.specs.Tables.{Row, IsTable, count_in, table_text}
 use Rattle.am_cli.specs.Stops.{Refusal, Stop, refused_name}
 use Rattle.am_cli.specs.Stops.Stop.{NoCommand, Refused, ReadFault, WriteFault, NoMemory}
-use Rattle.am_cli.specs.Stops.Refusal.{Missing, TooLong, BadCapture, HeadersCut}
+use Rattle.am_cli.specs.Stops.Refusal.{Missing, TooLong, BadCapture, HeadersCut, BadDomain}
 
 -- blocks of this length, for the clocks of two points that agree and a delay that is known
 abbrev pub times_of : Link → Times
@@ -45,6 +45,7 @@ IsRefused files name (BadCapture refused e) =
     (refused ≡ name) × ((bytes : List ℕ) × (file_named files name ≡ Some bytes) × IsRefusedFirst bytes e)
 IsRefused files name (HeadersCut refused number) =
     (refused ≡ name) × ((bytes : List ℕ) × (file_named files name ≡ Some bytes) × CutsHeaders bytes number)
+IsRefused files name (BadDomain refused e) = ⊥
 
 -- the first capture is judged whole, and then the second: this refusal comes first
 abbrev pub LinkRefusal : List File → Link → Refusal → Type 0

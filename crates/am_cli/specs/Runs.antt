@@ -5,9 +5,10 @@ use Rattle.am_base.specs.Counts.{Rose}
 use Rattle.am_base.specs.Shelves.{File, Told, OnTold}
 use Rattle.am_base.specs.Sinks.{AppendsFront}
 use Rattle.am_cli.specs.Commands.{Command, Says, IsNoCommand, file_names}
-use Rattle.am_cli.specs.Commands.Command.{Linking, Showing}
+use Rattle.am_cli.specs.Commands.Command.{Linking, Showing, Checking}
 use Rattle.am_cli.specs.Link.{LinkRefusal, IsLinkProduct}
 use Rattle.am_cli.specs.Show.{ShowRefusal, IsShowProduct, ShowLeaves}
+use Rattle.am_cli.specs.Check.{CheckRefusal, IsCheckProduct}
 use Rattle.am_cli.specs.Stops.{Refusal, Stop, refused_name, refusal_status, stop_status, stop_line}
 use Rattle.am_cli.specs.Stops.Stop.{NoCommand, Refused, ReadFault, WriteFault, NoMemory}
 
@@ -15,11 +16,13 @@ use Rattle.am_cli.specs.Stops.Stop.{NoCommand, Refused, ReadFault, WriteFault, N
 abbrev pub IsProduct : List File → Command → List ℕ → Type 0
 IsProduct files (Linking l) text = IsLinkProduct files l text
 IsProduct files (Showing s) text = IsShowProduct files s text
+IsProduct files (Checking c) text = IsCheckProduct files c text
 
 -- the first refusal of a command's inputs
 abbrev pub IsFirstRefusal : List File → Command → Refusal → Type 0
 IsFirstRefusal files (Linking l) r = LinkRefusal files l r
 IsFirstRefusal files (Showing s) r = ShowRefusal files s r
+IsFirstRefusal files (Checking c) r = CheckRefusal files c r
 
 -- a command that prints nothing before all its input was accepted: a failed write leaves a front of what it prints, and any other stop leaves nothing
 abbrev pub PrintsLast : Option Told → Command → Stop → List ℕ → Type 0
@@ -33,6 +36,7 @@ PrintsLast told c NoMemory printed = printed ≡ []
 abbrev pub Leaves : Option Told → Command → Stop → List ℕ → Type 0
 Leaves told (Linking l) stop printed = PrintsLast told (Linking l) stop printed
 Leaves told (Showing s) stop printed = ShowLeaves told s stop printed
+Leaves told (Checking c) stop printed = PrintsLast told (Checking c) stop printed
 
 -- a command may stop so: for one of its files, where they are told by its first refusal; because it can't write; or because memory runs out
 abbrev pub IsStopOf : Option Told → Command → Stop → Type 0

@@ -11,7 +11,7 @@ use Rattle.am_cli.specs.CaptureFiles.{Begins, IsRefusedIn}
 use Rattle.am_cli.specs.Commands.{Show}
 use Rattle.am_cli.specs.Lines.{AreLines}
 use Rattle.am_cli.specs.Stops.{Refusal, Stop}
-use Rattle.am_cli.specs.Stops.Refusal.{Missing, TooLong, BadCapture, HeadersCut}
+use Rattle.am_cli.specs.Stops.Refusal.{Missing, TooLong, BadCapture, HeadersCut, BadDomain}
 use Rattle.am_cli.specs.Stops.Stop.{NoCommand, Refused, ReadFault, WriteFault, NoMemory}
 
 -- the file is refused so; marks aren't asked for
@@ -22,6 +22,7 @@ ShowRefusal files s (TooLong refused) =
 ShowRefusal files s (BadCapture refused e) =
     (refused ≡ s.file) × ((bytes : List ℕ) × (ps : List Packet) × (file_named files s.file ≡ Some bytes) × IsRefusedIn bytes e ps)
 ShowRefusal files s (HeadersCut refused number) = ⊥
+ShowRefusal files s (BadDomain refused e) = ⊥
 
 -- what is printed of the first records
 pub record ShowsFirst (files : List File) (s : Show) (text : List ℕ) : Type 0 where
@@ -63,6 +64,7 @@ ShowLeaves told s (Refused (Missing name)) printed = printed ≡ []
 ShowLeaves told s (Refused (TooLong name)) printed = OnTold told (λ t. ShowsFront t.files s printed)
 ShowLeaves told s (Refused (BadCapture name e)) printed = OnTold told (λ t. ShowsBefore t.files s e printed)
 ShowLeaves told s (Refused (HeadersCut name number)) printed = ⊥
+ShowLeaves told s (Refused (BadDomain name e)) printed = ⊥
 ShowLeaves told s (ReadFault name) printed = OnTold told (λ t. ShowsFront t.files s printed)
 ShowLeaves told s WriteFault printed = OnTold told (λ t. ShowsFront t.files s printed)
 ShowLeaves told s NoMemory printed = OnTold told (λ t. ShowsFront t.files s printed)

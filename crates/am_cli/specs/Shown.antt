@@ -2,15 +2,20 @@
 use Rattle.std.specs.Prelude.{ℕ, List}
 use Rattle.am_pcap.specs.declared.capture.FileError.{FileError}
 use Rattle.am_pcap.specs.declared.capture.FileError.TheVariants as fault
+use Rattle.am_base.specs.declared.file.FileFault.{FileFault}
+use Rattle.am_base.specs.declared.file.FileFault.TheVariants as whole
+use Rattle.am_domain.specs.declared.error.DomainError.{DomainError}
+use Rattle.am_domain.specs.declared.error.DomainError.TheVariants as domain
 use Rattle.am_cli.specs.Commands as said
-use Rattle.am_cli.specs.Commands.{Link, Show}
+use Rattle.am_cli.specs.Commands.{Link, Show, Check}
 use Rattle.am_cli.specs.Stops as told
 use Rattle.am_cli.specs.declared.words.LinkWords.{LinkWords}
 use Rattle.am_cli.specs.declared.words.ShowWords.{ShowWords}
+use Rattle.am_cli.specs.declared.words.CheckWords.{CheckWords}
 use Rattle.am_cli.specs.declared.words.Command.{Command}
-use Rattle.am_cli.specs.declared.words.Command.TheVariants.{Link as LinkCommand, Show as ShowCommand}
+use Rattle.am_cli.specs.declared.words.Command.TheVariants.{Link as LinkCommand, Show as ShowCommand, Check as CheckCommand}
 use Rattle.am_cli.specs.declared.stop.Refusal.{Refusal}
-use Rattle.am_cli.specs.declared.stop.Refusal.TheVariants.{Missing, TooLong, BadCapture, HeadersCut}
+use Rattle.am_cli.specs.declared.stop.Refusal.TheVariants.{Missing, TooLong, BadCapture, HeadersCut, BadDomain}
 use Rattle.am_cli.specs.declared.stop.Stop.{Stop}
 use Rattle.am_cli.specs.declared.stop.Stop.TheVariants.{NoCommand, Refused, ReadFault, WriteFault, NoMemory}
 
@@ -28,10 +33,15 @@ link_shown w = record {
 abbrev pub show_shown : ShowWords → Show
 show_shown w = record { file = w.file.now }
 
+-- what a `CheckWords` says
+abbrev pub check_shown : CheckWords → Check
+check_shown w = record { file = w.file.now }
+
 -- what a `Command` says
 abbrev pub command_shown : Command → said.Command
 command_shown (LinkCommand w) = said.Command.Linking (link_shown w)
 command_shown (ShowCommand w) = said.Command.Showing (show_shown w)
+command_shown (CheckCommand w) = said.Command.Checking (check_shown w)
 
 -- what a `Refusal` says
 abbrev pub refusal_shown : Refusal → told.Refusal
@@ -39,6 +49,7 @@ refusal_shown (Missing name) = told.Refusal.Missing name.now
 refusal_shown (TooLong name) = told.Refusal.TooLong name.now
 refusal_shown (BadCapture name error) = told.Refusal.BadCapture name.now error
 refusal_shown (HeadersCut name number) = told.Refusal.HeadersCut name.now number
+refusal_shown (BadDomain name error) = told.Refusal.BadDomain name.now error
 
 -- what a `Stop` says
 abbrev pub stop_shown : Stop → told.Stop
@@ -55,3 +66,15 @@ stop_of_file name fault.ReadFault = told.Stop.ReadFault name
 stop_of_file name fault.TooLong = told.Stop.Refused (told.Refusal.TooLong name)
 stop_of_file name (fault.Bad error) = told.Stop.Refused (told.Refusal.BadCapture name error)
 stop_of_file name fault.Memory = told.Stop.NoMemory
+
+-- the stop where a domain file could not be read whole
+abbrev pub stop_of_whole : List ℕ → FileFault → told.Stop
+stop_of_whole name whole.Missing = told.Stop.Refused (told.Refusal.Missing name)
+stop_of_whole name whole.ReadFault = told.Stop.ReadFault name
+stop_of_whole name whole.TooLong = told.Stop.Refused (told.Refusal.TooLong name)
+stop_of_whole name whole.Memory = told.Stop.NoMemory
+
+-- the stop where a domain file is refused
+abbrev pub stop_of_domain : List ℕ → DomainError → told.Stop
+stop_of_domain name domain.Memory = told.Stop.NoMemory
+stop_of_domain name error = told.Stop.Refused (told.Refusal.BadDomain name error)

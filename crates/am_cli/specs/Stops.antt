@@ -1,6 +1,8 @@
 -- Why a command stops, with which status, and what it says of it.
 use Rattle.std.specs.Prelude.{ℕ, List, ◌++◌, codes, decimal}
 use Rattle.am_pcap.specs.declared.refusal.CapError.{CapError}
+use Rattle.am_domain.specs.declared.error.DomainError.{DomainError}
+use Rattle.am_cli.specs.DomainTexts.{domain_text}
 use Rattle.am_pcap.specs.declared.refusal.CapError.TheVariants.{BadMagic, BadVersion, UnknownLink, RecordTooLong, CutFile}
 
 -- why an input is refused; each names the file
@@ -9,6 +11,7 @@ pub data Refusal : Type 0 where
   TooLong : (name : List ℕ) → Refusal
   BadCapture : (name : List ℕ) (error : CapError) → Refusal
   HeadersCut : (name : List ℕ) (number : ℕ) → Refusal
+  BadDomain : (name : List ℕ) (error : DomainError) → Refusal
 
 -- why a command stops
 pub data Stop : Type 0 where
@@ -24,6 +27,7 @@ refused_name (Missing name) = name
 refused_name (TooLong name) = name
 refused_name (BadCapture name error) = name
 refused_name (HeadersCut name number) = name
+refused_name (BadDomain name error) = name
 
 -- the status of a refusal: a missing file is told apart from a file that is refused
 abbrev pub refusal_status : Refusal → ℕ
@@ -31,6 +35,7 @@ refusal_status (Missing name) = 4
 refusal_status (TooLong name) = 3
 refusal_status (BadCapture name error) = 3
 refusal_status (HeadersCut name number) = 3
+refusal_status (BadDomain name error) = 3
 
 abbrev pub stop_status : Stop → ℕ
 stop_status NoCommand = 2
@@ -56,6 +61,7 @@ refusal_line (Missing name) = said_of name (codes "missing")
 refusal_line (TooLong name) = said_of name (codes "too long")
 refusal_line (BadCapture name error) = said_of name (error_text error)
 refusal_line (HeadersCut name number) = said_of name (codes "headers of record " ++ decimal number ++ codes " are cut")
+refusal_line (BadDomain name error) = said_of (codes "domain") (domain_text error)
 
 -- the line on standard error
 abbrev pub stop_line : Stop → List ℕ

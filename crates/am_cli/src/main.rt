@@ -5,6 +5,8 @@
 #![tactic(auto)]
 
 mod capture;
+mod check;
+mod domain_line;
 mod link;
 mod run;
 mod show;

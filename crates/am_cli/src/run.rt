@@ -9,6 +9,7 @@ ghost use Rattle.am_cli.specs.Stops.{stop_status, stop_line};
 ghost use Rattle.am_cli.specs.Runs.{IsProduct, IsStopOf, Leaves, IsBorneOut, LeavesOf, Prints, IsStopped, Refuses, Completes, Tells, IsToldAs};
 ghost use Rattle.am_cli.specs.Shown.{command_shown, stop_shown};
 
+use crate::check::check;
 use crate::link::link;
 use crate::show::show;
 use crate::stop::Stop;
@@ -96,6 +97,7 @@ fn perform_command<'a, S: Shelf, O: Sink>(
     match command {
         Command::Link(asked) => link(alloc, asked, shelf, out),
         Command::Show(asked) => show(alloc, asked, shelf, out),
+        Command::Check(asked) => check(alloc, asked, shelf, out),
     }
 }
 

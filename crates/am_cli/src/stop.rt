@@ -2,8 +2,11 @@
 ghost use Rattle.std.specs.Prelude.{◌≡◌, IfOk, string_bytes};
 ghost use Rattle.am_cli.specs.Stops.{said_of, refusal_line, refusal_status, stop_line, stop_status};
 ghost use Rattle.am_cli.specs.Stops as told;
-ghost use Rattle.am_cli.specs.Shown.{refusal_shown, stop_shown, stop_of_file};
+ghost use Rattle.am_cli.specs.Shown.{refusal_shown, stop_shown, stop_of_file, stop_of_whole, stop_of_domain};
 
+use crate::domain_line::domain_line;
+use am_base::FileFault;
+use am_domain::DomainError;
 use am_pcap::{CapError, FileError};
 use std::alloc::{AllocError, Global};
 use std::fmt::Write;
@@ -19,6 +22,8 @@ pub enum Refusal<'a> {
     BadCapture { name: &'a str, error: CapError },
     /// The headers of the record of this number are cut: bytes that may hold a mark were not captured.
     HeadersCut { name: &'a str, number: u64 },
+    /// The bytes of the file are no domain file.
+    BadDomain { name: &'a str, error: DomainError },
 }
 
 /// Why a command stops.
@@ -49,6 +54,28 @@ pub fn file_stop(name: &str, error: FileError) -> Stop<'_>
     }
 }
 
+/// The stop where this domain file could not be read whole.
+pub fn whole_stop(name: &str, fault: FileFault) -> Stop<'_>
+    ensures { stop_shown result ≡ stop_of_whole name.now fault }
+{
+    match fault {
+        FileFault::Missing => Stop::Refused(Refusal::Missing { name }),
+        FileFault::ReadFault => Stop::ReadFault { name },
+        FileFault::TooLong => Stop::Refused(Refusal::TooLong { name }),
+        FileFault::Memory => Stop::NoMemory,
+    }
+}
+
+/// The stop where this domain file is refused.
+pub fn domain_stop(name: &str, error: DomainError) -> Stop<'_>
+    ensures { stop_shown result ≡ stop_of_domain name.now error }
+{
+    match error {
+        DomainError::Memory => Stop::NoMemory,
+        _ => Stop::Refused(Refusal::BadDomain { name, error }),
+    }
+}
+
 impl Refusal<'_> {
     /// The status of the program: 4 for a missing file, else 3.
     fn status(&self) -> u8
@@ -59,6 +86,7 @@ impl Refusal<'_> {
             Refusal::TooLong { .. } => 3,
             Refusal::BadCapture { .. } => 3,
             Refusal::HeadersCut { .. } => 3,
+            Refusal::BadDomain { .. } => 3,
         }
     }
 
@@ -71,6 +99,7 @@ impl Refusal<'_> {
             Refusal::TooLong { name } => said_of(alloc, name, "too long"),
             Refusal::BadCapture { name, error } => bad_capture(alloc, name, *error),
             Refusal::HeadersCut { name, number } => headers_cut(alloc, name, *number),
+            Refusal::BadDomain { error, .. } => domain_line(alloc, error),
         }
     }
 }

@@ -35,6 +35,13 @@ pub struct ShowWords<'a> {
     pub file: &'a str,
 }
 
+/// What `check` was asked.
+#[derive(Clone, Copy)]
+pub struct CheckWords<'a> {
+    /// The name of the domain file.
+    pub file: &'a str,
+}
+
 /// A command, with what it was asked.
 #[derive(Clone, Copy)]
 pub enum Command<'a> {
@@ -42,6 +49,8 @@ pub enum Command<'a> {
     Link(LinkWords<'a>),
     /// What each record of a capture says.
     Show(ShowWords<'a>),
+    /// The summary of a domain.
+    Check(CheckWords<'a>),
 }
 
 /// The command that the words are; none where they are no command.
@@ -58,7 +67,7 @@ pub fn command_of(words: &[String]) -> Option<Command<'_>>
             up.as_str(),
             down.as_str(),
         ),
-        [name, file] => show_command(name.as_str(), file.as_str()),
+        [name, file] => file_command(name.as_str(), file.as_str()),
         _ => None,
     }
 }
@@ -84,18 +93,21 @@ fn link_command<'a>(
     }
 }
 
-// `show FILE`.
-fn show_command<'a>(name: &str, file: &'a str) -> Option<Command<'a>>
+// `show FILE` or `check DOMAIN`.
+fn file_command<'a>(name: &str, file: &'a str) -> Option<Command<'a>>
     ensures only { IfSome result (λ c. Says (name.now ∷ file.now ∷ []) (command_shown c)) }
     ensures none { IfNone result (IsNoCommand (name.now ∷ file.now ∷ [])) }
 {
-    if name != "show" {
-        return None;
-    }
     if !is_file_name(file) {
         return None;
     }
-    Some(Command::Show(ShowWords { file }))
+    if name == "show" {
+        return Some(Command::Show(ShowWords { file }));
+    }
+    if name == "check" {
+        return Some(Command::Check(CheckWords { file }));
+    }
+    None
 }
 
 // What stands behind `link`.

@@ -1,0 +1,82 @@
+-- What `check` prints, and that its domain file is refused or not.
+use Rattle.std.proofs.Common.{arith, refl, sym, ap, subst, ◌∙◌, ◌≡◌, ℕ, ◌+◌, ◌<◌, ◌≤◌, List, [], ◌∷◌, ◌++◌, length, take, map, Option, Some, None, inl, inr, append_assoc}
+use Rattle.toml.specs.Data.{Members}
+use Rattle.am_base.specs.Shelves.{File, Told, OnTold, IsAbsent, file_named}
+use Rattle.am_base.specs.declared.file.FileFault.{FileFault}
+use Rattle.am_base.specs.declared.file.FileFault.TheVariants as whole
+use Rattle.am_domain.specs.Domains.{DomainValue, IsDocument, IsDomain, TellsRefusal}
+use Rattle.am_domain.specs.declared.error.DomainError.{DomainError}
+use Rattle.am_domain.specs.declared.error.DomainError.TheVariants as refused
+use Rattle.am_cli.specs.Check.{IsCheckProduct, CheckRefusal, IsDomainRefusal, IsSummary, most_domain}
+use Rattle.am_cli.specs.Commands.{Check}
+use Rattle.am_cli.specs.Commands.Command.{Checking}
+use Rattle.am_cli.specs.Runs.{IsStopOf}
+use Rattle.am_cli.specs.Shown.{stop_of_domain}
+use Rattle.am_cli.specs.Stops.{Refusal, Stop, refusal_status}
+use Rattle.am_cli.specs.Stops.Refusal.{Missing, TooLong, BadCapture, HeadersCut, BadDomain}
+use Rattle.am_cli.proofs.FileLemmas.{told_more}
+use Rattle.am_cli.proofs.ReadLemmas.{one_file}
+
+-- a file that says a domain isn't refused
+domain-not_refused : (bytes : List ℕ) (ms : Members) (d : DomainValue) (e : DomainError) → IsDocument bytes ms → IsDomain ms d → IsDomainRefusal bytes e → ⊥
+domain-not_refused bytes ms d e document says r = ?
+
+-- the refusals of the file have one status
+pub check_refused_alike : (files : List File) (c : Check) (r s : Refusal) → CheckRefusal files c r → CheckRefusal files c s → refusal_status r ≡ refusal_status s
+check_refused_alike files c (Missing a) (Missing b) p q = refl
+check_refused_alike files c (Missing a) (TooLong b) p q = absurd (cc (p.1, q.1.1))
+check_refused_alike files c (Missing a) (BadDomain b e) p q = absurd (cc (p.1, q.1.1))
+check_refused_alike files c (Missing a) (BadCapture b e) p q = absurd q
+check_refused_alike files c (Missing a) (HeadersCut b k) p q = absurd q
+check_refused_alike files c (TooLong a) (Missing b) p q = absurd (cc (p.1.1, q.1))
+check_refused_alike files c (TooLong a) (TooLong b) p q = refl
+check_refused_alike files c (TooLong a) (BadDomain b e) p q = refl
+check_refused_alike files c (TooLong a) (BadCapture b e) p q = absurd q
+check_refused_alike files c (TooLong a) (HeadersCut b k) p q = absurd q
+check_refused_alike files c (BadDomain a d) (Missing b) p q = absurd (cc (p.1.1, q.1))
+check_refused_alike files c (BadDomain a d) (TooLong b) p q = refl
+check_refused_alike files c (BadDomain a d) (BadDomain b e) p q = refl
+check_refused_alike files c (BadDomain a d) (BadCapture b e) p q = absurd q
+check_refused_alike files c (BadDomain a d) (HeadersCut b k) p q = absurd q
+check_refused_alike files c (BadCapture a d) q p r = absurd p
+check_refused_alike files c (HeadersCut a j) q p r = absurd p
+
+-- what is printed was not refused
+pub check_not_refused : (files : List File) (c : Check) (text : List ℕ) (r : Refusal) → IsCheckProduct files c text → CheckRefusal files c r → ⊥
+check_not_refused files c text (Missing a) t q = cc (t.there, q.1)
+check_not_refused files c text (TooLong a) t q =
+    let e : t.bytes ≡ q.1.0 = one_file files c.file t.bytes q.1.0 t.there q.1.1 in
+    omega (arith, t.short, q.1.2, ap length e)
+check_not_refused files c text (BadDomain a error) t q =
+    let e : q.1.0 ≡ t.bytes = one_file files c.file q.1.0 t.bytes q.1.1 t.there in
+    domain-not_refused t.bytes t.members t.domain error t.document t.says (subst (λ bytes. IsDomainRefusal bytes error) e q.1.3)
+check_not_refused files c text (BadCapture a error) t q = q
+check_not_refused files c text (HeadersCut a k) t q = q
+
+-- why a domain is refused is why `check` stops
+pub domain_stops :
+    (told : Option Told) (c : Check) (bytes : List ℕ) (e : DomainError)
+    → OnTold told (λ t. file_named t.files c.file ≡ Some bytes) → length bytes ≤ most_domain → TellsRefusal bytes e
+    → IsStopOf told (Checking c) (stop_of_domain c.file e)
+domain_stops told c bytes refused.Memory there short tells = tt
+domain_stops told c bytes refused.NotToml there short tells = ((0, (omega arith), refl), told_more told (λ t h. (refl, (bytes, h, short, tells))) there)
+domain_stops told c bytes (refused.BadField p i k) there short tells = ((0, (omega arith), refl), told_more told (λ t h. (refl, (bytes, h, short, tells))) there)
+domain_stops told c bytes (refused.Timing fault) there short tells = ((0, (omega arith), refl), told_more told (λ t h. (refl, (bytes, h, short, tells))) there)
+domain_stops told c bytes (refused.TooMany p count) there short tells = ((0, (omega arith), refl), told_more told (λ t h. (refl, (bytes, h, short, tells))) there)
+domain_stops told c bytes (refused.Twice what first second) there short tells = ((0, (omega arith), refl), told_more told (λ t h. (refl, (bytes, h, short, tells))) there)
+domain_stops told c bytes (refused.UnknownNode link end) there short tells = ((0, (omega arith), refl), told_more told (λ t h. (refl, (bytes, h, short, tells))) there)
+domain_stops told c bytes (refused.SelfLink link) there short tells = ((0, (omega arith), refl), told_more told (λ t h. (refl, (bytes, h, short, tells))) there)
+domain_stops told c bytes (refused.LinkTwice first second) there short tells = ((0, (omega arith), refl), told_more told (λ t h. (refl, (bytes, h, short, tells))) there)
+domain_stops told c bytes (refused.LoneNode node) there short tells = ((0, (omega arith), refl), told_more told (λ t h. (refl, (bytes, h, short, tells))) there)
+domain_stops told c bytes (refused.NoBlock first end) there short tells = ((0, (omega arith), refl), told_more told (λ t h. (refl, (bytes, h, short, tells))) there)
+domain_stops told c bytes (refused.TooManyCells count) there short tells = ((0, (omega arith), refl), told_more told (λ t h. (refl, (bytes, h, short, tells))) there)
+
+-- the summary of the domain of an accepted file is what is printed
+pub check_prints :
+    (told : Option Told) (c : Check) (bytes : List ℕ) (ms : Members) (d : DomainValue) (text : List ℕ)
+    → OnTold told (λ t. file_named t.files c.file ≡ Some bytes) → length bytes ≤ most_domain → IsDocument bytes ms → IsDomain ms d → IsSummary d text
+    → OnTold told (λ t. IsCheckProduct t.files c text)
+check_prints told c bytes ms d text there short document says summary =
+    told_more told
+    (λ t h. record { bytes = bytes; members = ms; domain = d; there = h; short = short; document = document; says = says; summary = summary })
+    there
