@@ -1,5 +1,5 @@
 -- What a file's parts give of the domain that is made of them.
-use Rattle.std.proofs.Common.{◌≡◌, ◌≢◌, ℕ, ◌+◌, ◌-◌, ◌*◌, ◌<◌, ◌≤◌, List, [], ◌∷◌, length, get_or, zero, suc, Option, Some, None, subst, sym, ap, ◌∙◌, inl, inr, arith}
+use Rattle.std.proofs.Common.{◌≡◌, ◌≢◌, ℕ, ◌-◌, ◌*◌, ◌<◌, ◌≤◌, List, [], ◌∷◌, length, get_or, zero, suc, Option, subst, sym, ap, ◌∙◌, inl, inr, arith}
 use Rattle.std.proofs.lemmas.Bool.{cases_order}
 use Rattle.std.proofs.lemmas.Slice.Zip.{AllZip-long}
 use Rattle.std.specs.List.{AllZip}
@@ -7,12 +7,11 @@ use Rattle.am_clock.specs.Times.{Times, IsTiming}
 use Rattle.toml.specs.Data.{Data, Members}
 use Rattle.am_domain.specs.Values.{FlowValue, NodeValue, LinkValue}
 use Rattle.am_domain.specs.Texts.{IsName, IsFileName, IsWorkersAt}
-use Rattle.am_domain.specs.Lists.{AllBelow}
 use Rattle.am_domain.specs.Tables.{SaysFlow, SaysNode}
 use Rattle.am_domain.specs.Entries.{IsTableOf}
 use Rattle.am_domain.specs.Fields.{FieldsValue, Says}
-use Rattle.am_domain.specs.Network.{IsNumberOf, Joins, SameEnds, HasLink, IsFirstBlock, IsEndBlock}
-use Rattle.am_domain.specs.Rules.{Each, AreDistinct, EndsDiffer, SameNodeName, IsLaidOut, KeepsFirst}
+use Rattle.am_domain.specs.Network.{IsNumberOf, Joins, SameEnds, HasLink}
+use Rattle.am_domain.specs.Rules.{Each, AreDistinct, EndsDiffer, SameNodeName}
 use Rattle.am_domain.specs.Domains.{DomainValue, SameNodes, IsLinked, IsMadeOf, IsLawful}
 use Rattle.am_domain.specs.declared.link.Edge.{Edge}
 
@@ -86,11 +85,11 @@ module _ (nodes : List NodeValue) (links : List LinkValue) (edges : List Edge) (
         number = has.number;
         within = inside;
         here = λ d.
-          let j : Joins nodes (get_or links has.number any_link) (get_or edges has.number d) = zip_at (Joins nodes) links edges has.number any_link d joined inside in
-          elim (has.here any_link) [
-            | inl from ↦ inl (one_number nodes _ _ node apart j.from within (sym from))
-            | inr to ↦ inr (one_number nodes _ _ node apart j.to within (sym to))
-          ];
+            let j : Joins nodes (get_or links has.number any_link) (get_or edges has.number d) = zip_at (Joins nodes) links edges has.number any_link d joined inside in
+            elim (has.here any_link) [
+              | inl from ↦ inl (one_number nodes _ _ node apart j.from within (sym from))
+              | inr to ↦ inr (one_number nodes _ _ node apart j.to within (sym to))
+            ];
       }
 
 -- what is made of a file is lawful

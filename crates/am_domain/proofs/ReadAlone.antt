@@ -1,10 +1,10 @@
 -- The answer to a file's bytes is one alone.
-use Rattle.std.proofs.Common.{◌≡◌, ℕ, List, Option, Some, Result, Ok, Err, subst, sym, ap, ◌∙◌, refl, inl, inr}
+use Rattle.std.proofs.Common.{◌≡◌, ℕ, List, Option, Result, Ok, Err, subst, sym, ap, ◌∙◌, refl, inl, inr}
 use Rattle.std.proofs.lemmas.Option.{same_Some}
 use Rattle.toml.specs.Data.{Members}
 use Rattle.am_domain.specs.Fields.{FieldsValue, Says, IsBadField, TellsField}
 use Rattle.am_domain.specs.Rules.{IsFirstBroken, TellsBroken}
-use Rattle.am_domain.specs.Domains.{DomainValue, IsMadeOf, IsDocument, IsDomain, IsBroken, IsRefusal, IsNoDocument, IsAnswer}
+use Rattle.am_domain.specs.Domains.{DomainValue, IsMadeOf, IsDocument, IsDomain, IsRefusal, IsNoDocument, IsAnswer}
 use Rattle.am_domain.specs.declared.error.Part.{Part}
 use Rattle.am_domain.specs.declared.error.Key.{Key}
 use Rattle.am_domain.specs.declared.error.DomainError.{DomainError}

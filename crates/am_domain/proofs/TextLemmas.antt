@@ -1,12 +1,12 @@
 -- What stands at a key, from the text that was read there.
-use Rattle.std.proofs.Common.{◌≡◌, ℕ, List, [], ◌∷◌, Option, Some, None, Bool, false, String, Global, string_bytes, bytes_eq, not, ◌||◌, refl, ap, subst, sym}
+use Rattle.std.proofs.Common.{◌≡◌, ℕ, List, [], ◌∷◌, Option, Some, Bool, false, String, Global, string_bytes, bytes_eq, not, ◌||◌, refl, ap, subst, sym}
 use Rattle.std.specs.List.{list_any}
 use Rattle.std.specs.Map.{keys_of}
 use Rattle.toml.specs.View.{members_view}
 use Rattle.toml.specs.declared.value.Value.{Value}
 use Rattle.am_domain.specs.Keys.{has_other}
 use Rattle.std.proofs.lemmas.Option.{same_Some}
-use Rattle.toml.specs.Data.{Data, string}
+use Rattle.toml.specs.Data.{Data}
 use Rattle.am_addr.specs.Bits.{Span, IsPrefixText}
 use Rattle.am_domain.specs.Texts.{text_of, IsPrefixAt}
 

@@ -12,7 +12,7 @@ use Rattle.am_domain.specs.declared.error.Part.{Part}
 use Rattle.am_domain.specs.declared.error.Part.TheVariants as part
 use Rattle.am_domain.specs.declared.error.Repeated.TheVariants.{FlowName, FlowId, NodeName}
 use Rattle.am_domain.specs.declared.error.DomainError.{DomainError}
-use Rattle.am_domain.specs.declared.error.DomainError.TheVariants.{NotToml, BadField, Timing, TooMany, Twice, UnknownNode, SelfLink, LinkTwice, LoneNode, NoBlock, TooManyCells, Memory}
+use Rattle.am_domain.specs.declared.error.DomainError.TheVariants.{Timing, TooMany, Twice, UnknownNode, SelfLink, LinkTwice, LoneNode, NoBlock, TooManyCells, Memory}
 
 -- the rules
 pub data Rule : Type 0 where

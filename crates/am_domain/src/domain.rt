@@ -172,10 +172,10 @@ fn first_holding(flows: &[Flow], source: &Addr, destination: &Addr) -> Option<us
     ensures found { IfSome result (λ i. IsFirstWith (Holds source.now.0 destination.now.0) flows.now i) }
     ensures none { IfNone result (NoneHas (Holds source.now.0 destination.now.0) flows.now) }
 {
-    for i in 0..flows.len() {
-        let flow = &flows[i];
+    for at in 0..flows.len() {
+        let flow = &flows[at];
         if holds(flow, source, destination) {
-            return Some(i);
+            return Some(at);
         }
     }
     None

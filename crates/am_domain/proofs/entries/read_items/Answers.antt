@@ -1,5 +1,4 @@
-use Rattle.std.proofs.Common.{map, take, rules, arith}
-use Rattle.toml.specs.View.{view}
+use Rattle.std.proofs.Common.{rules, arith}
 use Rattle.am_domain.specs.Entries.{IsTableOf}
 use Rattle.am_domain.proofs.EntryLemmas.{says_more, bad_at}
 use Rattle.am_domain.proofs.SaysAlone.{items_same}
@@ -12,6 +11,7 @@ returns-in-Err-Bad-clause-bad g c =
 pub loop-i-preserved : goal.loop-i-preserved
 loop-i-preserved g c =
     let R = IsTableOf g.T.Entry.says in
-    rw c.in-Ok-push.ensures.items
-    (says_more R c.args.items.now c.loop-i.i c.index-items-i.result c.loop-i.read.items c.in-Ok.x (omega arith) c.index-items-i.is c.loop-i.invariant.0 c.in-Ok.ensures.ok,
-     items_same R c.args.items.now c.loop-i.i c.index-items-i.result c.loop-i.read.items c.in-Ok.x (omega arith) c.index-items-i.is c.loop-i.invariant.1 c.in-Ok.ensures.alone)
+    rw c.in-Ok-push.ensures.items (
+      says_more R c.args.items.now c.loop-i.i c.index-items-i.result c.loop-i.read.items c.in-Ok.x (omega arith) c.index-items-i.is c.loop-i.invariant.0 c.in-Ok.ensures.ok,
+      items_same R c.args.items.now c.loop-i.i c.index-items-i.result c.loop-i.read.items c.in-Ok.x (omega arith) c.index-items-i.is c.loop-i.invariant.1 c.in-Ok.ensures.alone,
+    )

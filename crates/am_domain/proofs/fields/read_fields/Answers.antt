@@ -1,4 +1,4 @@
-use Rattle.std.proofs.Common.{rules, sym}
+use Rattle.std.proofs.Common.{sym}
 use Rattle.toml.specs.View.{table_view}
 use Rattle.am_domain.proofs.SaysAlone.{says_same}
 use Rattle.am_domain.proofs.fields.read_fields.Goals as goal
