@@ -53,9 +53,13 @@ fn read(alloc: Global, text: &str) -> Result<Result<Domain, DomainError>, Fail> 
     Ok(read_domain(alloc, text.as_bytes()))
 }
 
+// Threads may share such a value, and one may hand it to another.
+fn is_shared<T: Sync + Send>(_value: &T) {}
+
 #[test]
 fn two_nodes_and_a_link(rt: HostRuntime) -> Result<(), Fail> {
     let domain = changed(rt.alloc(), "", "")?.expect(&rt, "a domain");
+    is_shared(&domain);
     assert_eq!(rt; domain.timing().block(), 10_000_000_000);
     assert_eq!(rt; domain.timing().delay_max(), 500_000_000);
     assert_eq!(rt; domain.place(), Place::HopByHop);
