@@ -1,10 +1,10 @@
 -- What `check` prints, and that its domain file is refused or not.
-use Rattle.std.proofs.Common.{arith, refl, sym, ap, subst, ◌∙◌, ◌≡◌, ℕ, ◌+◌, ◌<◌, ◌≤◌, List, [], ◌∷◌, ◌++◌, length, take, map, Option, Some, None, inl, inr, append_assoc}
+use Rattle.std.proofs.Common.{arith, refl, sym, ap, subst, ◌∙◌, ◌≡◌, ℕ, ◌+◌, ◌<◌, ◌≤◌, List, [], ◌∷◌, ◌++◌, length, take, map, Option, Some, None, Ok, Err, inl, inr, append_assoc}
 use Rattle.toml.specs.Data.{Members}
 use Rattle.am_base.specs.Shelves.{File, Told, OnTold, IsAbsent, file_named}
 use Rattle.am_base.specs.declared.file.FileFault.{FileFault}
 use Rattle.am_base.specs.declared.file.FileFault.TheVariants as whole
-use Rattle.am_domain.specs.Domains.{DomainValue, IsDocument, IsDomain, TellsRefusal}
+use Rattle.am_domain.specs.Domains.{DomainValue, IsDocument, IsDomain, IsRefusal, TellsRefusal, IsAnswer}
 use Rattle.am_domain.specs.declared.error.DomainError.{DomainError}
 use Rattle.am_domain.specs.declared.error.DomainError.TheVariants as refused
 use Rattle.am_cli.specs.Check.{IsCheckProduct, CheckRefusal, IsDomainRefusal, IsSummary, most_domain}
@@ -17,9 +17,27 @@ use Rattle.am_cli.specs.Stops.Refusal.{Missing, TooLong, BadCapture, HeadersCut,
 use Rattle.am_cli.proofs.FileLemmas.{told_more}
 use Rattle.am_cli.proofs.ReadLemmas.{one_file}
 
--- a file that says a domain isn't refused
-domain-not_refused : (bytes : List ℕ) (ms : Members) (d : DomainValue) (e : DomainError) → IsDocument bytes ms → IsDomain ms d → IsDomainRefusal bytes e → ⊥
-domain-not_refused bytes ms d e document says r = ?
+-- an answer is no error
+not_both : (d : DomainValue) (e : DomainError) → IsAnswer (Ok d) (Err e) → ⊥
+not_both d e (inl h) = cc (h)
+not_both d e (inr h) = cc (h)
+
+-- a file that is read as a domain isn't refused
+pub domain_accepted :
+    (bytes : List ℕ) (ms : Members) (d : DomainValue) (e : DomainError) → IsDocument bytes ms
+    → ((k : Members) (f : DomainError) → IsDocument bytes k → IsRefusal k f → IsAnswer (Ok d) (Err f)) → IsDomainRefusal bytes e → ⊥
+domain_accepted bytes ms d refused.NotToml document all r = r ms document
+domain_accepted bytes ms d refused.Memory document all r = r
+domain_accepted bytes ms d (refused.BadField p i k) document all r = not_both d _ (all r.0 (refused.BadField p i k) r.1 r.2)
+domain_accepted bytes ms d (refused.Timing fault) document all r = not_both d _ (all r.0 (refused.Timing fault) r.1 r.2)
+domain_accepted bytes ms d (refused.TooMany p count) document all r = not_both d _ (all r.0 (refused.TooMany p count) r.1 r.2)
+domain_accepted bytes ms d (refused.Twice what first second) document all r = not_both d _ (all r.0 (refused.Twice what first second) r.1 r.2)
+domain_accepted bytes ms d (refused.UnknownNode link end) document all r = not_both d _ (all r.0 (refused.UnknownNode link end) r.1 r.2)
+domain_accepted bytes ms d (refused.SelfLink link) document all r = not_both d _ (all r.0 (refused.SelfLink link) r.1 r.2)
+domain_accepted bytes ms d (refused.LinkTwice first second) document all r = not_both d _ (all r.0 (refused.LinkTwice first second) r.1 r.2)
+domain_accepted bytes ms d (refused.LoneNode node) document all r = not_both d _ (all r.0 (refused.LoneNode node) r.1 r.2)
+domain_accepted bytes ms d (refused.NoBlock first end) document all r = not_both d _ (all r.0 (refused.NoBlock first end) r.1 r.2)
+domain_accepted bytes ms d (refused.TooManyCells count) document all r = not_both d _ (all r.0 (refused.TooManyCells count) r.1 r.2)
 
 -- the refusals of the file have one status
 pub check_refused_alike : (files : List File) (c : Check) (r s : Refusal) → CheckRefusal files c r → CheckRefusal files c s → refusal_status r ≡ refusal_status s
@@ -49,7 +67,7 @@ check_not_refused files c text (TooLong a) t q =
     omega (arith, t.short, q.1.2, ap length e)
 check_not_refused files c text (BadDomain a error) t q =
     let e : q.1.0 ≡ t.bytes = one_file files c.file q.1.0 t.bytes q.1.1 t.there in
-    domain-not_refused t.bytes t.members t.domain error t.document t.says (subst (λ bytes. IsDomainRefusal bytes error) e q.1.3)
+    t.accepted error (subst (λ bytes. IsDomainRefusal bytes error) e q.1.3)
 check_not_refused files c text (BadCapture a error) t q = q
 check_not_refused files c text (HeadersCut a k) t q = q
 
@@ -74,9 +92,10 @@ domain_stops told c bytes (refused.TooManyCells count) there short tells = ((0, 
 -- the summary of the domain of an accepted file is what is printed
 pub check_prints :
     (told : Option Told) (c : Check) (bytes : List ℕ) (ms : Members) (d : DomainValue) (text : List ℕ)
-    → OnTold told (λ t. file_named t.files c.file ≡ Some bytes) → length bytes ≤ most_domain → IsDocument bytes ms → IsDomain ms d → IsSummary d text
+    → OnTold told (λ t. file_named t.files c.file ≡ Some bytes) → length bytes ≤ most_domain → IsDocument bytes ms → IsDomain ms d
+    → ((k : Members) (f : DomainError) → IsDocument bytes k → IsRefusal k f → IsAnswer (Ok d) (Err f)) → IsSummary d text
     → OnTold told (λ t. IsCheckProduct t.files c text)
-check_prints told c bytes ms d text there short document says summary =
+check_prints told c bytes ms d text there short document says all summary =
     told_more told
-    (λ t h. record { bytes = bytes; members = ms; domain = d; there = h; short = short; document = document; says = says; summary = summary })
+    (λ t h. record { bytes = bytes; members = ms; domain = d; there = h; short = short; document = document; says = says; accepted = λ e. domain_accepted bytes ms d e document all; summary = summary })
     there

@@ -68,7 +68,12 @@ pub record IsSummary (d : DomainValue) (text : List ℕ) : Type 0 where
   pub flow_lines : AreFlowLines d.flows flows
   pub joined : text ≡ head_lines d ++ flows ++ node_lines d 0 d.nodes ++ flat_map (link_line d.nodes) d.links
 
--- what is printed: the summary of the domain that the file says
+-- the bytes of a domain file are refused so
+abbrev pub IsDomainRefusal : List ℕ → DomainError → Type 0
+IsDomainRefusal bytes refused.Memory = ⊥
+IsDomainRefusal bytes e = TellsRefusal bytes e
+
+-- what is printed: the summary of the domain that the file, which isn't refused, says
 pub record IsCheckProduct (files : List File) (c : Check) (text : List ℕ) : Type 0 where
   pub bytes : List ℕ
   pub members : Members
@@ -77,12 +82,8 @@ pub record IsCheckProduct (files : List File) (c : Check) (text : List ℕ) : Ty
   pub short : length bytes ≤ most_domain
   pub document : IsDocument bytes members
   pub says : IsDomain members domain
+  pub accepted : (e : DomainError) → IsDomainRefusal bytes e → ⊥
   pub summary : IsSummary domain text
-
--- the bytes of a domain file are refused so
-abbrev pub IsDomainRefusal : List ℕ → DomainError → Type 0
-IsDomainRefusal bytes refused.Memory = ⊥
-IsDomainRefusal bytes e = TellsRefusal bytes e
 
 -- the file is refused so
 abbrev pub CheckRefusal : List File → Check → Refusal → Type 0

@@ -1,5 +1,5 @@
 -- Blocks that begin or end within spans, one node after another.
-use Rattle.std.proofs.Common.{◌≡◌, ℕ, ◌+◌, ◌<◌, ◌≤◌, ◌↔◌, min, max, subst, arith, below_more}
+use Rattle.std.proofs.Common.{◌≡◌, ℕ, ◌+◌, ◌<◌, ◌≤◌, ◌↔◌, subst, arith, below_more}
 use Rattle.am_clock.specs.Times.{Times}
 use Rattle.am_clock.specs.Covered.{StartsIn, EndsIn}
 

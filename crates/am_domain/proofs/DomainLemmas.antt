@@ -1,18 +1,18 @@
 -- What a file's parts give of the domain that is made of them.
-use Rattle.std.proofs.Common.{◌≡◌, ℕ, ◌+◌, ◌-◌, ◌*◌, ◌<◌, ◌≤◌, List, [], ◌∷◌, length, get_or, zero, suc, Option, Some, None, subst, sym, ap, ◌∙◌, inl, inr, arith}
+use Rattle.std.proofs.Common.{◌≡◌, ◌≢◌, ℕ, ◌-◌, ◌*◌, ◌<◌, ◌≤◌, List, [], ◌∷◌, length, get_or, zero, suc, Option, subst, sym, ap, ◌∙◌, inl, inr, arith}
+use Rattle.std.proofs.lemmas.Bool.{cases_order}
 use Rattle.std.proofs.lemmas.Slice.Zip.{AllZip-long}
 use Rattle.std.specs.List.{AllZip}
 use Rattle.am_clock.specs.Times.{Times, IsTiming}
 use Rattle.toml.specs.Data.{Data, Members}
 use Rattle.am_domain.specs.Values.{FlowValue, NodeValue, LinkValue}
 use Rattle.am_domain.specs.Texts.{IsName, IsFileName, IsWorkersAt}
-use Rattle.am_domain.specs.Lists.{AllBelow}
 use Rattle.am_domain.specs.Tables.{SaysFlow, SaysNode}
 use Rattle.am_domain.specs.Entries.{IsTableOf}
 use Rattle.am_domain.specs.Fields.{FieldsValue, Says}
-use Rattle.am_domain.specs.Network.{Joins, IsFirstBlock, IsEndBlock}
-use Rattle.am_domain.specs.Rules.{Each, IsLaidOut, KeepsFirst}
-use Rattle.am_domain.specs.Domains.{DomainValue, IsMadeOf, IsLawful}
+use Rattle.am_domain.specs.Network.{IsNumberOf, Joins, SameEnds, HasLink}
+use Rattle.am_domain.specs.Rules.{Each, AreDistinct, EndsDiffer, SameNodeName}
+use Rattle.am_domain.specs.Domains.{DomainValue, SameNodes, IsLinked, IsMadeOf, IsLawful}
 use Rattle.am_domain.specs.declared.link.Edge.{Edge}
 
 -- what each pair gives of its second, each second has
@@ -30,6 +30,67 @@ some_node ms f says = omega (arith, says.nodes.some, AllZip-long (IsTableOf Says
 workers_within : (at : Option Data) (n : ℕ) → IsWorkersAt at n → (1 ≤ n) × (n ≤ 64)
 workers_within at n (inl h) = (omega (arith, h.1), omega (arith, h.1))
 workers_within at n (inr h) = (h.1, h.2)
+
+-- ---- links by numbers
+
+any_node : NodeValue
+any_node = record { name = []; capture = []; from = 0; until = 0 }
+
+any_link : LinkValue
+any_link = record { from = []; to = [] }
+
+-- the pair at a place
+zip_at : {A B : Type 0} (R : A → B → Type 0) (xs : List A) (ys : List B) (i : ℕ) (d : A) (e : B) → AllZip R xs ys → i < length ys → R (get_or xs i d) (get_or ys i e)
+zip_at R [] [] i d e all h = absurd (omega (arith, h))
+zip_at R [] (y ∷ ys) i d e all h = absurd all
+zip_at R (x ∷ xs) [] i d e all h = absurd all
+zip_at R (x ∷ xs) (y ∷ ys) zero d e all h = all.0
+zip_at R (x ∷ xs) (y ∷ ys) (suc i) d e all h = zip_at R xs ys i d e all.1 (omega arith)
+
+-- a number stands for one name
+one_name : (nodes : List NodeValue) (s t : List ℕ) (m n : ℕ) → m ≡ n → IsNumberOf nodes s m → IsNumberOf nodes t n → s ≡ t
+one_name nodes s t m n same a b = sym (a.here any_node) ∙ ap (λ k. (get_or nodes k any_node).name) same ∙ b.here any_node
+
+-- where names differ, a name stands for one number
+one_number : (nodes : List NodeValue) (s : List ℕ) (m n : ℕ) → AreDistinct SameNodeName nodes → IsNumberOf nodes s m → n < length nodes → (get_or nodes n any_node).name ≡ s → m ≡ n
+one_number nodes s m n apart a within named =
+    elim (cases_order m n) [
+      | inl e ↦ e
+      | inr h ↦ elim h [
+        | inl before ↦ absurd (apart n any_node within m any_node before (a.here any_node ∙ sym named))
+        | inr behind ↦ absurd (a.before n any_node behind named)
+      ]
+    ]
+
+module _ (nodes : List NodeValue) (links : List LinkValue) (edges : List Edge) (joined : AllZip (Joins nodes) links edges) where
+  same_length : length edges ≡ length links
+  same_length = AllZip-long (Joins nodes) links edges joined
+
+  numbers_differ : Each EndsDiffer links → Each (λ e. e.from ≢ e.to) edges
+  numbers_differ apart k d h same =
+      let j : Joins nodes (get_or links k any_link) (get_or edges k d) = zip_at (Joins nodes) links edges k any_link d joined h in
+      apart k any_link (omega (arith, same_length)) (one_name nodes _ _ _ _ same j.from j.to)
+
+  pairs_differ : AreDistinct SameEnds links → AreDistinct SameNodes edges
+  pairs_differ apart j d h i e before same =
+      let p : Joins nodes (get_or links i any_link) (get_or edges i e) = zip_at (Joins nodes) links edges i any_link e joined (omega arith) in
+      let q : Joins nodes (get_or links j any_link) (get_or edges j d) = zip_at (Joins nodes) links edges j any_link d joined h in
+      apart j any_link (omega (arith, same_length)) i any_link before (one_name nodes _ _ _ _ same.0 p.from q.from, one_name nodes _ _ _ _ same.1 p.to q.to)
+
+  linked : AreDistinct SameNodeName nodes → Each (HasLink links) nodes → (node : ℕ) → node < length nodes → IsLinked edges node
+  linked apart each node within =
+      let has : HasLink links (get_or nodes node any_node) = each node any_node within in
+      let inside : has.number < length edges = omega (arith, has.within, same_length) in
+      record {
+        number = has.number;
+        within = inside;
+        here = λ d.
+            let j : Joins nodes (get_or links has.number any_link) (get_or edges has.number d) = zip_at (Joins nodes) links edges has.number any_link d joined inside in
+            elim (has.here any_link) [
+              | inl from ↦ inl (one_number nodes _ _ node apart j.from within (sym from))
+              | inr to ↦ inr (one_number nodes _ _ node apart j.to within (sym to))
+            ];
+      }
 
 -- what is made of a file is lawful
 pub lawful : (ms : Members) (f : FieldsValue) (d : DomainValue) → Says ms f → IsMadeOf f d → d.first < d.end → length d.flows * (d.end - d.first) ≤ 32768 → IsLawful d
@@ -51,6 +112,9 @@ lawful ms f d says made some few =
       flow_ids_differ = rw made.flows kept.1.1.1.1.1.0;
       node_names_differ = rw made.nodes kept.1.1.1.1.1.1.0;
       links_within = rw made.nodes (zip_each (Joins f.nodes) (λ e. (e.from < length f.nodes) × (e.to < length f.nodes)) (λ x y r. (r.from.within, r.to.within)) f.links d.links made.laid_out.joined);
+      ends_differ = numbers_differ f.nodes f.links d.links made.laid_out.joined kept.1.1.1.1.1.1.1.1.0;
+      links_differ = pairs_differ f.nodes f.links d.links made.laid_out.joined kept.1.1.1.1.1.1.1.1.1.0;
+      nodes_linked = rw made.nodes (linked f.nodes f.links d.links made.laid_out.joined kept.1.1.1.1.1.1.0 kept.1.1.1.1.1.1.1.1.1.1.0);
       some_block = some;
       few_cells = few;
       starts = rw (made.times, made.nodes) made.laid_out.starts;

@@ -1,9 +1,7 @@
 -- The first bad field is one alone, and there is none where the table says something.
-use Rattle.std.proofs.Common.{◌≡◌, ℕ, ◌+◌, ◌<◌, ◌≤◌, ◌⊎◌, List, [], ◌∷◌, ◌++◌, length, take, zero, suc, slice_get, Option, Some, None, false, true, subst, sym, ap, ◌∙◌, refl, inl, inr, arith}
-use Rattle.std.proofs.lemmas.Bool.{cases_order, true≢false}
-use Rattle.std.proofs.lemmas.Option.{same_Some}
+use Rattle.std.proofs.Common.{◌≡◌, ℕ, ◌≤◌, List, [], ◌∷◌, ◌++◌, length, suc, Option, Some, None, subst, sym, ap, ◌∙◌, refl, inl, inr, arith}
 use Rattle.std.specs.List.{AllByRecursion, AllZip}
-use Rattle.toml.specs.Data.{Data, array, table, Items, no_items, item, Members}
+use Rattle.toml.specs.Data.{Data, array, Items, item, Members}
 use Rattle.toml.specs.View.{items_of}
 use Rattle.am_clock.specs.Times.{Times}
 use Rattle.am_domain.specs.Values.{FlowValue, NodeValue, LinkValue}
@@ -11,9 +9,9 @@ use Rattle.am_domain.specs.First.{IsFirstNot}
 use Rattle.am_domain.specs.Keys.{IsRight}
 use Rattle.am_domain.specs.Tables.{order, SaysFlow, SaysNode, SaysLink, IsBadKey}
 use Rattle.am_domain.specs.Entries.{IsTableOf, IsBadItem, IsBadAt, AreEntries, IsBadArray}
-use Rattle.am_domain.specs.Fields.{FieldsValue, MarkingValue, SaysTimes, SaysMarking, IsTableAt, Says, IsRightPart, IsBadTable, IsBadPart, parts, part_place, IsBadField}
+use Rattle.am_domain.specs.Fields.{MarkingValue, SaysTimes, SaysMarking, IsTableAt, IsBadTable}
 use Rattle.am_domain.specs.declared.error.Part.{Part}
-use Rattle.am_domain.specs.declared.error.Part.TheVariants.{Top, Timing, Marking, Flow, Node, Link}
+use Rattle.am_domain.specs.declared.error.Part.TheVariants.{Timing, Marking, Flow, Node, Link}
 use Rattle.am_domain.specs.declared.error.Key.{Key}
 
 -- the first that is not right is one alone
@@ -139,9 +137,9 @@ module _ {X : Type 0} (part : Part) (Said : Members → X → Type 0) (right : (
   pub array_says : (at : Option Data) (xs : List X) (i : Option ℕ) (k : Option Key) → AreEntries Said at xs → IsBadArray part Said at i k → ⊥
   array_says at xs None None h b = no_items_left h.items h.some h.is_array b
     where
-    no_items_left : (ds : List Data) → 1 ≤ length ds → at ≡ Some (array (items_of ds)) → ((d : Data) (es : Items) → at ≡ Some (array (item d es)) → ⊥) → ⊥
-    no_items_left [] some e none = absurd (omega (arith, some))
-    no_items_left (d ∷ ds) some e none = none d (items_of ds) e
+      no_items_left : (ds : List Data) → 1 ≤ length ds → at ≡ Some (array (items_of ds)) → ((d : Data) (es : Items) → at ≡ Some (array (item d es)) → ⊥) → ⊥
+      no_items_left [] some e none = absurd (omega (arith, some))
+      no_items_left (d ∷ ds) some e none = none d (items_of ds) e
   array_says at xs None (Some k) h b = b
   array_says at xs (Some i) k h b =
       let e : items_of h.items ≡ items_of b.items = cc (h.is_array, b.is_array) in

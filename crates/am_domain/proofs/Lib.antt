@@ -8,3 +8,4 @@ pub mod FirstAlone
 pub mod FieldAlone
 pub mod RuleAlone
 pub mod SaysAlone
+pub mod ReadAlone

@@ -1,5 +1,5 @@
 -- One more item of a list.
-use Rattle.std.proofs.Common.{◌≡◌, ℕ, ◌+◌, ◌<◌, List, [], ◌∷◌, ◌++◌, length, get_or, take, subst, sym, below_more}
+use Rattle.std.proofs.Common.{◌≡◌, ℕ, ◌+◌, ◌<◌, List, [], ◌∷◌, ◌++◌, length, get_or, take, subst, below_more}
 use Rattle.std.proofs.lemmas.List.{take_more, get_or_read}
 use Rattle.std.specs.List.{AllZip}
 use Rattle.am_domain.specs.Lists.{AllBelow}

@@ -1,18 +1,17 @@
 -- The first broken rule is one alone, and no rule is broken where all are kept.
-use Rattle.std.proofs.Common.{◌≡◌, ◌≢◌, ℕ, ◌+◌, ◌-◌, ◌*◌, ◌<◌, ◌≤◌, ◌↔◌, List, [], ◌∷◌, length, take, zero, suc, slice_get, slice_index_or, Option, Some, None, subst, sym, ap, ◌∙◌, refl, inl, inr, arith}
+use Rattle.std.proofs.Common.{◌≡◌, ℕ, ◌-◌, ◌*◌, ◌<◌, ◌≤◌, ◌↔◌, List, [], ◌∷◌, length, slice_get, slice_index_or, Some, subst, sym, ap, ◌∙◌, refl, inl, inr, arith}
 use Rattle.std.proofs.lemmas.Bool.{cases_order}
-use Rattle.std.proofs.lemmas.Option.{same_Some}
-use Rattle.std.specs.List.{AllByRecursion, AllZip}
+use Rattle.std.specs.List.{AllZip}
 use Rattle.am_addr.specs.Bits.{Span}
 use Rattle.am_clock.specs.Times.{Times, IsTiming}
 use Rattle.am_clock.specs.Refusals.{IsFirstFault}
 use Rattle.am_clock.specs.declared.timing.TimingError.{TimingError}
 use Rattle.am_clock.specs.declared.timing.TimingError.TheVariants.{ZeroBlock, OddBlock, BlockTooLong, DelayTooLong, BoundsCrossed, GuardTooWide}
 use Rattle.am_domain.specs.Values.{FlowValue, NodeValue, LinkValue}
-use Rattle.am_domain.specs.Lists.{AllBelow, IsFirstPlace, DistinctBelow, IsFirstPair}
+use Rattle.am_domain.specs.Lists.{IsFirstPlace, IsFirstPair}
 use Rattle.am_domain.specs.Fields.{FieldsValue}
 use Rattle.am_domain.specs.Network.{IsNumberOf, IsNoNode, IsNode, IsBetween, IsLoose, Joins, SameEnds, HasLink, IsLone, StartsBelow, EndsBelow, IsFirstBlock, IsEndBlock}
-use Rattle.am_domain.specs.Rules.{Rule, timed, few_nodes, few_links, few_flows, flow_names_differ, flow_ids_differ, node_names_differ, ends_are_nodes, ends_differ, links_differ, nodes_have_links, some_block, few_cells, rules_in_order, AreDistinct, Each, EndsDiffer, SameFlowName, SameFlowId, SameNodeName, IsLaidOut, Keeps, Tells, rank, KeepsFirst, IsFirstBroken}
+use Rattle.am_domain.specs.Rules.{Rule, timed, few_nodes, few_links, few_flows, flow_names_differ, flow_ids_differ, node_names_differ, ends_are_nodes, ends_differ, links_differ, nodes_have_links, some_block, few_cells, rules_in_order, AreDistinct, Each, EndsDiffer, SameFlowName, SameFlowId, SameNodeName, IsLaidOut, Keeps, Tells, rank, IsFirstBroken}
 use Rattle.am_domain.specs.Domains.{DomainValue, IsMadeOf}
 use Rattle.am_domain.specs.declared.link.Edge.{Edge}
 use Rattle.am_domain.specs.declared.error.Key.{Key}

@@ -1,5 +1,5 @@
 -- What a table says is one thing alone.
-use Rattle.std.proofs.Common.{◌≡◌, ℕ, ◌+◌, ◌<◌, List, [], ◌∷◌, ◌++◌, map, length, take, get_or, Option, Some, None, subst, sym, ap, ◌∙◌, refl, inl, inr, codes, pos}
+use Rattle.std.proofs.Common.{◌≡◌, ℕ, ◌+◌, ◌<◌, List, [], ◌∷◌, ◌++◌, map, length, take, get_or, Option, Some, subst, sym, ap, ◌∙◌, refl, inl, inr, pos}
 use Rattle.std.proofs.lemmas.List.{take_more, map-append}
 use Rattle.std.specs.List.{AllZip}
 use Rattle.toml.specs.Data.{Data, string, integer, array, table, Members}
@@ -9,7 +9,7 @@ use Rattle.am_clock.specs.Times.{Times}
 use Rattle.am_ip6.specs.declared.marks.Place.{Place}
 use Rattle.am_ip6.specs.declared.marks.Place.TheVariants.{HopByHop, Destination}
 use Rattle.am_domain.specs.Values.{FlowValue, NodeValue, LinkValue}
-use Rattle.am_domain.specs.Texts.{IsNumberAt, IsWorkersAt, IsPlaceAt}
+use Rattle.am_domain.specs.Texts.{IsWorkersAt, IsPlaceAt}
 use Rattle.am_domain.specs.Tables.{SaysFlow, SaysNode, SaysLink}
 use Rattle.am_domain.specs.Entries.{IsTableOf, AreEntries}
 use Rattle.am_domain.specs.Fields.{FieldsValue, MarkingValue, SaysTimes, SaysMarking, IsTableAt, Says}

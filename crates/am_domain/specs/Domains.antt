@@ -1,5 +1,5 @@
 -- The domain of a file's bytes, or why they have none.
-use Rattle.std.specs.Prelude.{◌≡◌, ℕ, ◌-◌, ◌*◌, ◌<◌, ◌≤◌, ◌⊎◌, List, length, IsUtf8, Option, Some, Result, Ok, Err}
+use Rattle.std.specs.Prelude.{◌≡◌, ◌≢◌, ℕ, ◌-◌, ◌*◌, ◌<◌, ◌≤◌, ◌⊎◌, List, length, slice_index_or, IsUtf8, Some, Result, Err}
 use Rattle.toml.specs.Data.{Members}
 use Rattle.toml.specs.Parse.{parse_document}
 use Rattle.am_clock.specs.Times.{Times, IsTiming}
@@ -25,6 +25,16 @@ pub record DomainValue : Type 0 where
   pub first : ℕ
   pub end : ℕ
 
+-- two links lead from and to the same nodes
+abbrev pub SameNodes : Edge → Edge → Type 0
+SameNodes a b = (a.from ≡ b.from) × (a.to ≡ b.to)
+
+-- some link begins or ends at the node of this number
+pub record IsLinked (links : List Edge) (node : ℕ) : Type 0 where
+  pub number : ℕ
+  pub within : number < length links
+  pub here : (d : Edge) → ((slice_index_or links number d).from ≡ node) ⊎ ((slice_index_or links number d).to ≡ node)
+
 -- what every domain has: see each line
 pub record IsLawful (d : DomainValue) : Type 0 where
   -- its numbers of time are a timing
@@ -44,8 +54,11 @@ pub record IsLawful (d : DomainValue) : Type 0 where
   pub flow_names_differ : AreDistinct SameFlowName d.flows
   pub flow_ids_differ : AreDistinct SameFlowId d.flows
   pub node_names_differ : AreDistinct SameNodeName d.nodes
-  -- each link joins two nodes of the domain
+  -- each link leads from one node of the domain to another, no two from and to the same nodes, and each node has one
   pub links_within : Each (λ e. (e.from < length d.nodes) × (e.to < length d.nodes)) d.links
+  pub ends_differ : Each (λ e. e.from ≢ e.to) d.links
+  pub links_differ : AreDistinct SameNodes d.links
+  pub nodes_linked : (node : ℕ) → node < length d.nodes → IsLinked d.links node
   -- some block is reported, and not too many for the flows; they are those that every node's capture covers
   pub some_block : d.first < d.end
   pub few_cells : length d.flows * (d.end - d.first) ≤ 32768

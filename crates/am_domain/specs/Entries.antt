@@ -1,5 +1,5 @@
 -- An array of tables, and the first of its items that is bad.
-use Rattle.std.specs.Prelude.{◌≡◌, ℕ, ◌≤◌, List, [], ◌∷◌, ◌++◌, length, Option, Some, None}
+use Rattle.std.specs.Prelude.{◌≡◌, ℕ, ◌≤◌, List, ◌∷◌, ◌++◌, length, Option, Some, None}
 use Rattle.std.specs.List.{AllZip}
 use Rattle.toml.specs.Data.{Data, array, table, Items, item, Members}
 use Rattle.toml.specs.View.{items_of}

@@ -90,10 +90,11 @@ IsBadPart ms Node = IsBadArray Node SaysNode (at_part ms Node)
 IsBadPart ms Link = IsBadArray Link SaysLink (at_part ms Link)
 IsBadPart ms Top = IsBadTop ms
 
--- the parts in the order in which they are looked at, and the place of each
+-- the parts in the order in which they are looked at
 abbrev pub parts : List Part
 parts = Timing ∷ Marking ∷ Flow ∷ Node ∷ Link ∷ Top ∷ []
 
+-- the place of a part in that order
 abbrev pub part_place : Part → ℕ
 part_place Timing = 0
 part_place Marking = 1

@@ -1,7 +1,7 @@
 -- The keys of a domain file: how they are spelled, in which order they are looked at, and what stands at each.
-use Rattle.std.specs.Prelude.{◌≡◌, ℕ, codes, ◌⊎◌, Bool, false, not, ◌||◌, IsTrue, bytes_eq, List, [], ◌∷◌, map, Option, Some, None}
+use Rattle.std.specs.Prelude.{◌≡◌, ℕ, codes, Bool, false, not, ◌||◌, bytes_eq, List, [], ◌∷◌, map, Option}
 use Rattle.std.specs.List.{list_any}
-use Rattle.toml.specs.Data.{Data, string, table, Members, no_members, member, get_member}
+use Rattle.toml.specs.Data.{Data, Members, no_members, member, get_member}
 use Rattle.am_addr.specs.Bits.{Span}
 use Rattle.am_ip6.specs.declared.marks.Place.{Place as Kind}
 use Rattle.am_domain.specs.Texts.{IsNumberAt, IsNameAt, IsFileNameAt, IsPrefixAt, IsIdAt, IsReadingAt, IsWorkersAt, IsPlaceAt}

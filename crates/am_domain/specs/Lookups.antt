@@ -1,5 +1,5 @@
 -- Flows that are looked up.
-use Rattle.std.specs.Prelude.{◌≡◌, ◌≢◌, ℕ, List, length}
+use Rattle.std.specs.Prelude.{◌≡◌, ℕ, List, length}
 use Rattle.am_addr.specs.Bits.{BeginAlike}
 use Rattle.am_domain.specs.Values.{FlowValue}
 use Rattle.am_domain.specs.Lists.{AllBelow, IsFirstPlace}

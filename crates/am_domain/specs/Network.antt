@@ -40,7 +40,7 @@ pub record Joins (nodes : List NodeValue) (link : LinkValue) (edge : Edge) : Typ
   pub from : IsNumberOf nodes link.from edge.from
   pub to : IsNumberOf nodes link.to edge.to
 
--- two flows or two nodes have the same name, and two links the same ends
+-- two links lead from and to nodes of the same names
 abbrev pub SameEnds : LinkValue → LinkValue → Type 0
 SameEnds a b = (a.from ≡ b.from) × (a.to ≡ b.to)
 

@@ -12,7 +12,7 @@ use Rattle.am_domain.specs.declared.error.Part.{Part}
 use Rattle.am_domain.specs.declared.error.Part.TheVariants as part
 use Rattle.am_domain.specs.declared.error.Repeated.TheVariants.{FlowName, FlowId, NodeName}
 use Rattle.am_domain.specs.declared.error.DomainError.{DomainError}
-use Rattle.am_domain.specs.declared.error.DomainError.TheVariants.{NotToml, BadField, Timing, TooMany, Twice, UnknownNode, SelfLink, LinkTwice, LoneNode, NoBlock, TooManyCells, Memory}
+use Rattle.am_domain.specs.declared.error.DomainError.TheVariants.{Timing, TooMany, Twice, UnknownNode, SelfLink, LinkTwice, LoneNode, NoBlock, TooManyCells, Memory}
 
 -- the rules
 pub data Rule : Type 0 where
@@ -36,13 +36,15 @@ rules_in_order =
     timed ∷ few_nodes ∷ few_links ∷ few_flows ∷ flow_names_differ ∷ flow_ids_differ ∷ node_names_differ
     ∷ ends_are_nodes ∷ ends_differ ∷ links_differ ∷ nodes_have_links ∷ some_block ∷ few_cells ∷ []
 
--- two flows have the same name; two flows have the same number; two nodes have the same name
+-- two flows have the same name
 abbrev pub SameFlowName : FlowValue → FlowValue → Type 0
 SameFlowName a b = a.name ≡ b.name
 
+-- two flows have the same number
 abbrev pub SameFlowId : FlowValue → FlowValue → Type 0
 SameFlowId a b = a.id ≡ b.id
 
+-- two nodes have the same name
 abbrev pub SameNodeName : NodeValue → NodeValue → Type 0
 SameNodeName a b = a.name ≡ b.name
 
@@ -54,7 +56,7 @@ AreDistinct Same xs = DistinctBelow Same (length xs) xs
 abbrev pub Each : {X : Type 0} → (X → Type 0) → List X → Type 0
 Each P xs = AllBelow P (length xs) xs
 
--- the links lead from one node to another
+-- the link leads from one name to another
 abbrev pub EndsDiffer : LinkValue → Type 0
 EndsDiffer link = link.from ≢ link.to
 

@@ -1,5 +1,5 @@
 -- What the tables of a domain file say, and the first key of a table that is bad.
-use Rattle.std.specs.Prelude.{ℕ, List, [], ◌∷◌, ◌++◌, Option}
+use Rattle.std.specs.Prelude.{List, [], ◌∷◌, ◌++◌, Option}
 use Rattle.toml.specs.Data.{Data, Members, get_member}
 use Rattle.am_domain.specs.Values.{FlowValue, NodeValue, LinkValue}
 use Rattle.am_domain.specs.Texts.{IsNameAt, IsFileNameAt, IsPrefixAt, IsIdAt, IsReadingAt}

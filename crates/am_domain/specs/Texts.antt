@@ -1,5 +1,5 @@
 -- The values that stand at the keys of a domain file.
-use Rattle.std.specs.Prelude.{◌≡◌, ℕ, ℤ, pos, codes, ◌<◌, ◌≤◌, ◌⊎◌, Bool, ◌||◌, ◌&&◌, ◌==◌, nat_le, not, IsTrue, List, length, Option, Some, None}
+use Rattle.std.specs.Prelude.{◌≡◌, ℕ, pos, codes, ◌≤◌, ◌⊎◌, Bool, ◌||◌, ◌&&◌, ◌==◌, nat_le, not, IsTrue, List, length, Option, Some, None}
 use Rattle.std.specs.List.{list_all}
 use Rattle.toml.specs.Data.{Data, string, integer}
 use Rattle.am_addr.specs.Bits.{Span, IsPrefixText}

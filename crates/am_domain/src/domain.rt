@@ -7,6 +7,7 @@ ghost use Rattle.am_domain.specs.Fields.{Says};
 ghost use Rattle.am_domain.specs.Lookups.{IsFirstWith, NoneHas, HasId, Holds};
 ghost use Rattle.am_domain.specs.Network.{shift_at, IsNumberOf, IsNoNode};
 ghost use Rattle.am_domain.specs.Rules.{TellsBroken};
+ghost use Rattle.am_domain.specs.declared.error.DomainError.{DomainError as ErrorValue};
 
 use crate::blocks::shift_of;
 use crate::error::DomainError;
@@ -171,10 +172,10 @@ fn first_holding(flows: &[Flow], source: &Addr, destination: &Addr) -> Option<us
     ensures found { IfSome result (λ i. IsFirstWith (Holds source.now.0 destination.now.0) flows.now i) }
     ensures none { IfNone result (NoneHas (Holds source.now.0 destination.now.0) flows.now) }
 {
-    for i in 0..flows.len() {
-        let flow = &flows[i];
+    for at in 0..flows.len() {
+        let flow = &flows[at];
         if holds(flow, source, destination) {
-            return Some(i);
+            return Some(at);
         }
     }
     None
@@ -250,6 +251,10 @@ pub fn read_domain(alloc: Global, bytes: &[u8]) -> Result<Domain, DomainError>
     requires { length bytes.now ≤ 1048576 }
     ensures ok { IfOk result (λ d. (ms : Members) × IsDocument bytes.now ms × IsDomain ms d) }
     ensures err { IfErr result (λ e. TellsRefusal bytes.now e) }
+    // Whatever domain the bytes say, and whatever their first refusal is, it is the answer, unless memory is short.
+    ensures found { (ms : Members) (d : DomainValue) → IsDocument bytes.now ms → IsDomain ms d → IsAnswer result (Ok d) }
+    ensures refused { (ms : Members) (e : ErrorValue) → IsDocument bytes.now ms → IsRefusal ms e → IsAnswer result (Err e) }
+    ensures not_toml { IsNoDocument bytes.now → IsAnswer result (Err DomainError.NotToml) }
 {
     let table = match toml::table_from_slice(alloc, bytes) {
         Ok(table) => table,

@@ -1,9 +1,9 @@
 //! Arrays of tables: each item is a table that says a flow, a node or a link.
 
-ghost use Rattle.std.specs.Prelude.{◌≡◌, ℕ, map, IfOk, IfErr, option_map};
+ghost use Rattle.std.specs.Prelude.{◌≡◌, ℕ, List, map, IfOk, IfErr, IfSome, IfNone, Some, option_map};
 ghost use Rattle.std.specs.List.{AllZip};
-ghost use Rattle.toml.specs.Data.{Members};
-ghost use Rattle.toml.specs.View.{view, table_view};
+ghost use Rattle.toml.specs.Data.{Members, Items, array};
+ghost use Rattle.toml.specs.View.{view, table_view, items_of};
 ghost use Rattle.am_domain.specs.Entries.{TellsKey, TellsBadItem, TellsItem, TellsEntry, AreEntries, IsTableOf};
 ghost use Rattle.am_domain.specs.declared.error.Part.{Part};
 
@@ -41,6 +41,8 @@ pub(crate) trait Entry: Sized {
     /// What the table says, or its first bad key.
     fn read(alloc: Global, table: &Table) -> Result<Self, KeyFault>
         ensures ok { IfOk result (λ x. says (table_view table.now) x) }
+        // It says nothing else.
+        ensures alone { IfOk result (λ x. (y : Self) → says (table_view table.now) y → y ≡ x) }
         ensures bad { IfErr result (λ e. TellsKey part (table_view table.now) e) };
 }
 
@@ -50,9 +52,11 @@ pub(crate) fn entries<T: Entry + Drop>(
     value: Option<&Value>,
 ) -> Result<Vec<T>, EntryFault>
     ensures ok { IfOk result (λ v. AreEntries T.says (option_map (λ x. view x.now) value.entry) v.items) }
+    // They say nothing else.
+    ensures alone { IfOk result (λ v. (ys : List T) → AreEntries T.says (option_map (λ x. view x.now) value.entry) ys → ys ≡ v.items) }
     ensures bad { IfErr result (λ e. TellsEntry T.part T.says (option_map (λ x. view x.now) value.entry) e) }
 {
-    let Some(Value::Array(items)) = value else {
+    let Some(items) = array_in(value) else {
         return Err(EntryFault::Bad {
             index: None,
             key: None,
@@ -64,15 +68,30 @@ pub(crate) fn entries<T: Entry + Drop>(
             key: None,
         });
     }
-    match read_items(alloc, items.as_slice()) {
+    match read_items(alloc, items) {
         Ok(read) => Ok(read),
         Err(fault) => Err(fault),
     }
 }
 
+// The items of an array. None where the value is none.
+fn array_in(value: Option<&Value>) -> Option<&[Value]>
+    ensures only { IfSome result (λ items. option_map (λ x. view x.now) value.entry ≡ Some (array (items_of (map view items.now)))) }
+    ensures none { IfNone result ((ds : Items) → option_map (λ x. view x.now) value.entry ≡ Some (array ds) → ⊥) }
+{
+    let Some(value) = value else {
+        return None;
+    };
+    let Some(items) = value.as_array() else {
+        return None;
+    };
+    Some(items.as_slice())
+}
+
 // What each item says, or the first bad one.
 fn read_items<T: Entry + Drop>(alloc: Global, items: &[Value]) -> Result<Vec<T>, EntryFault>
     ensures ok { IfOk result (λ v. AllZip (IsTableOf T.says) (map view items.now) v.items) }
+    ensures alone { IfOk result (λ v. (ys : List T) → AllZip (IsTableOf T.says) (map view items.now) ys → ys ≡ v.items) }
     ensures bad { IfErr result (λ e. TellsItem T.part T.says (map view items.now) e) }
 {
     let mut read = Vec::new(alloc);
@@ -101,6 +120,7 @@ fn read_items<T: Entry + Drop>(alloc: Global, items: &[Value]) -> Result<Vec<T>,
 // What an item says, which has to be a table.
 fn read_item<T: Entry + Drop>(alloc: Global, item: &Value) -> Result<T, ItemFault>
     ensures ok { IfOk result (λ x. IsTableOf T.says (view item.now) x) }
+    ensures alone { IfOk result (λ x. (y : T) → IsTableOf T.says (view item.now) y → y ≡ x) }
     ensures bad { IfErr result (λ e. TellsBadItem T.part (view item.now) e) }
 {
     let Value::Table(table) = item else {

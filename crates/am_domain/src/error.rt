@@ -44,8 +44,11 @@ pub enum Key {
 /// What two tables have in common that may not.
 #[derive(Clone, Copy, Debug, PartialEq, Eq)]
 pub enum Repeated {
+    /// The names of two flows.
     FlowName,
+    /// The numbers of two flows.
     FlowId,
+    /// The names of two nodes.
     NodeName,
 }
 

@@ -1,4 +1,11 @@
-//! The domain file.
+//! The domain file: what is measured, on which nodes, and in which blocks.
+//!
+//! A domain says the numbers of time (RFC 9341, section 5), the flows, and the network that they cross, as nodes
+//! with a capture each and links that lead one way (RFC 9342, section 4). [`read_domain`] makes one of the bytes of
+//! a TOML document, or tells the first reason why they have none. Every [`Domain`] keeps all rules of the file, so
+//! its callers need not ask again.
+//!
+//! The text is read by the crate `toml`. No file is opened here, and no capture is looked at.
 #![tactic(auto)]
 
 mod blocks;

@@ -149,6 +149,8 @@ pub(crate) fn file_name_at<'a>(table: &'a Table, key: &str) -> Option<&'a str>
 pub(crate) fn prefix_at(table: &Table, key: &str) -> Option<Prefix>
     ensures only { IfSome result (λ p. IsPrefixAt (get_member key.now (table_view table.now)) p) }
     ensures none { IfNone result ((span : Span) → IsPrefixAt (get_member key.now (table_view table.now)) span → ⊥) }
+    // No other prefix stands there.
+    ensures alone { IfSome result (λ p. (span : Span) → IsPrefixAt (get_member key.now (table_view table.now)) span → span ≡ p) }
 {
     let Some(text) = text_at(table, key) else {
         return None;

@@ -53,9 +53,13 @@ fn read(alloc: Global, text: &str) -> Result<Result<Domain, DomainError>, Fail> 
     Ok(read_domain(alloc, text.as_bytes()))
 }
 
+// Threads may share such a value, and one may hand it to another.
+fn is_shared<T: Sync + Send>(_value: &T) {}
+
 #[test]
 fn two_nodes_and_a_link(rt: HostRuntime) -> Result<(), Fail> {
     let domain = changed(rt.alloc(), "", "")?.expect(&rt, "a domain");
+    is_shared(&domain);
     assert_eq!(rt; domain.timing().block(), 10_000_000_000);
     assert_eq!(rt; domain.timing().delay_max(), 500_000_000);
     assert_eq!(rt; domain.place(), Place::HopByHop);
@@ -121,6 +125,32 @@ fn each_refusal(rt: HostRuntime) -> Result<(), Fail> {
             DomainError::UnknownNode {
                 link: 0,
                 end: Key::To,
+            },
+        ),
+        (
+            "[[node]]\nname = \"a\"",
+            "[[flow]]\nname = \"voice\"\nid = 1\nsource = \"::/0\"\ndestination = \"::/0\"\n[[node]]\nname = \"a\"",
+            DomainError::Twice {
+                what: Repeated::FlowName,
+                first: 0,
+                second: 1,
+            },
+        ),
+        (
+            "[[node]]\nname = \"a\"",
+            "[[flow]]\nname = \"web\"\nid = 74565\nsource = \"::/0\"\ndestination = \"::/0\"\n[[node]]\nname = \"a\"",
+            DomainError::Twice {
+                what: Repeated::FlowId,
+                first: 0,
+                second: 1,
+            },
+        ),
+        (
+            "from = \"a\"",
+            "from = \"c\"",
+            DomainError::UnknownNode {
+                link: 0,
+                end: Key::From,
             },
         ),
         (
@@ -246,5 +276,107 @@ fn as_many_cells_as_there_may_be(rt: HostRuntime) -> Result<(), Fail> {
     )?;
     let domain = found.expect(&rt, "a domain");
     assert_eq!(rt; (domain.first(), domain.end()), (0, 32_768));
+    Ok(())
+}
+
+// The flows of a domain of twelve points, and what their network is.
+const TWELVE_HEAD: &str = "[timing]
+block_ns = 10000000000
+skew_ns = 2000000
+delay_min_ns = 1000000
+delay_max_ns = 200000000
+
+[marking]
+place = \"hop-by-hop\"
+workers = 64
+
+[[flow]]
+name = \"voice\"
+id = 1
+source = \"2001:db8:1::/48\"
+destination = \"2001:db8:11::/48\"
+
+[[flow]]
+name = \"video\"
+id = 2
+source = \"2001:db8:2::/48\"
+destination = \"2001:db8:12::/48\"
+
+[[flow]]
+name = \"web\"
+id = 1048575
+source = \"2001:db8:3::/48\"
+destination = \"2001:db8:13::/48\"
+";
+
+fn twelve(alloc: Global) -> Result<String, Fail> {
+    let mut text = String::from_str(alloc, TWELVE_HEAD)?;
+    for number in 1..13u8 {
+        write!(
+            text,
+            "[[node]]\nname = \"p{number}\"\ncapture = \"p{number}.pcap\"\nfrom_ns = 1700000000000000000\nuntil_ns = 1700000316000000000\n"
+        )?;
+    }
+    for (from, to) in [
+        (1u8, 3u8),
+        (1, 4),
+        (2, 4),
+        (2, 5),
+        (3, 6),
+        (4, 6),
+        (4, 7),
+        (5, 7),
+        (6, 8),
+        (6, 9),
+        (7, 10),
+        (8, 11),
+        (9, 11),
+        (9, 12),
+    ] {
+        write!(text, "[[link]]\nfrom = \"p{from}\"\nto = \"p{to}\"\n")?;
+    }
+    Ok(text)
+}
+
+#[test]
+fn twelve_points(rt: HostRuntime) -> Result<(), Fail> {
+    let alloc = rt.alloc();
+    let text = twelve(alloc)?;
+    let domain = read(alloc, text.as_str())?.expect(&rt, "a domain");
+    assert_eq!(rt; (domain.first(), domain.end()), (170_000_001, 170_000_031));
+    assert_eq!(rt; domain.workers(), 64);
+    assert_eq!(rt; domain.nodes().len(), 12);
+    assert_eq!(rt; domain.edges().len(), 14);
+    assert_eq!(rt; domain.node_named("p7"), Some(6));
+    assert_eq!(rt; domain.node_named("p13"), None);
+    assert_eq!(rt; domain.shift(1), 0);
+    assert_eq!(rt; domain.shift(2), 1_000_000);
+    assert_eq!(rt; domain.flow_of_id(1_048_575), Some(2));
+    assert_eq!(rt; domain.flow_of_id(3), None);
+    let source = parse("2001:db8:2::7").ok_or("an address")?;
+    let destination = parse("2001:db8:12:1::9").ok_or("an address")?;
+    assert_eq!(rt; domain.flow_of(&source, &destination), Some(1));
+    assert_eq!(rt; domain.flow_of(&destination, &source), None);
+    Ok(())
+}
+
+#[test]
+fn too_many_nodes(rt: HostRuntime) -> Result<(), Fail> {
+    let alloc = rt.alloc();
+    let mut text = String::from_str(alloc, TWO)?;
+    for number in 0..127u8 {
+        write!(
+            text,
+            "[[node]]\nname = \"n{number}\"\ncapture = \"n\"\nfrom_ns = 0\nuntil_ns = 1\n"
+        )?;
+    }
+    let found = read(alloc, text.as_str())?;
+    assert_eq!(rt;
+        found.err(),
+        Some(DomainError::TooMany {
+            part: Part::Node,
+            count: 129
+        })
+    );
     Ok(())
 }

@@ -1,5 +1,5 @@
-use Rattle.std.proofs.Common.{◌≡◌, ◌*◌, ◌-◌, ◌≤◌, length, ap, ◌∙◌, sym, rules, arith}
-use Rattle.am_domain.specs.Domains.{DomainValue, IsMadeOf}
+use Rattle.std.proofs.Common.{◌*◌, ◌-◌, ◌≤◌, length, ap, rules}
+use Rattle.am_domain.specs.Domains.{IsMadeOf}
 use Rattle.am_domain.proofs.DomainLemmas.{some_node, lawful}
 use Rattle.am_domain.proofs.domain.domain_of.Goals as goal
 

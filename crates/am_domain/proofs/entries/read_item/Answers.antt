@@ -1,4 +1,3 @@
-use Rattle.std.proofs.Common.{sym}
 use Rattle.toml.specs.View.{table_view}
 use Rattle.toml.proofs.Views.{view-Table}
 use Rattle.am_domain.proofs.entries.read_item.Goals as goal

@@ -1,4 +1,4 @@
-use Rattle.std.proofs.Common.{◌≡◌, ◌*◌, ◌-◌, length, ap, ◌∙◌, sym, arith}
+use Rattle.std.proofs.Common.{◌≡◌, ◌*◌, ◌-◌, length, ap, ◌∙◌, arith}
 use Rattle.am_domain.proofs.RuleLemmas.{laid_out}
 use Rattle.am_domain.proofs.judge.check_blocks.Goals as goal
 

@@ -1,4 +1,4 @@
-use Rattle.std.proofs.Common.{◌≡◌, ap, ◌∙◌}
+use Rattle.std.proofs.Common.{ap, ◌∙◌}
 use Rattle.am_domain.proofs.RuleLemmas.{broken_end, kept_ends}
 use Rattle.am_domain.proofs.judge.check_ends.Goals as goal
 

@@ -1,4 +1,4 @@
-use Rattle.std.proofs.Common.{◌≡◌, bytes_eq, string_bytes}
+use Rattle.std.proofs.Common.{◌≡◌}
 use Rattle.toml.specs.View.{table_view}
 use Rattle.am_domain.specs.Keys.{spellings, has_other}
 use Rattle.am_domain.proofs.TextLemmas.{some_other}
