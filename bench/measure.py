@@ -1,49 +1,278 @@
 #!/usr/bin/env python3
-"""Times a program beside `cat` of the two files that are its last words, and takes its peak memory.
+"""Makes pairs of captures, holds what a program prints of them against what is right, and measures it.
 
-    measure.py PROGRAM WORD.. FILE FILE
+    measure.py PROGRAM FOLDER [PAIR..]
 
-Both write to /dev/null. The files were read before, so they come from memory. The runs take turns, and the least time of
-each counts, since whatever else the machine does can only add to it.
+FOLDER has the built programs `captures` and `spawn`, and gets a folder for each pair, of which the big files are removed
+once it is measured. A pair is measured only where every table is right. All output goes to /dev/null while it is measured.
+The files were just written and read, so they come from memory. Runs take turns, and the least time of each counts, since
+whatever else the machine does can only add to it. The status is 0 where everything that was printed is right.
 """
 import os
+import platform
 import shutil
+import subprocess
 import sys
-import time
+from dataclasses import dataclass, field
 
-RUNS = 25
-MOST_TIMES_CAT = 12
-MOST_BYTES = 80_000_000
+MOST_BYTES = 8_000_000
+# Two runs of one program differ by some pages in what the system counts.
+SAME_BYTES = 500_000
 
 
-def run(words):
-    """Seconds and peak bytes of one run."""
-    actions = [(os.POSIX_SPAWN_OPEN, 1, os.devnull, os.O_WRONLY, 0)]
-    begin = time.perf_counter()
-    child = os.posix_spawn(words[0], words, os.environ, file_actions=actions)
-    _, status, usage = os.wait4(child, 0)
-    took = time.perf_counter() - begin
-    if status != 0:
-        sys.exit(f"bench: {words[0]} ended with wait status {status}")
-    return took, usage.ru_maxrss * 1024
+@dataclass
+class Pair:
+    name: str
+    what: str
+    words: list  # of captures.c
+    rounds: int
+    shown: bool = True  # whether the lines of `show` are compared
+
+
+PAIRS = [
+    Pair("short", "1,000,000 records, 64 bytes captured of each", ["-n", "1000000", "-s", "64", "-t"], 11),
+    Pair("tenfold", "10,000,000 records, 64 bytes captured of each", ["-n", "10000000", "-s", "64"], 3, shown=False),
+    Pair("whole", "1,000,000 records of 1,500 bytes", ["-n", "1000000", "-l", "1500", "-g", "1500", "-s", "1500", "-t"], 7),
+    Pair(
+        "ethernet",
+        "100,000 records, 78 bytes captured of each: Ethernet, big-endian, microseconds",
+        ["-n", "100000", "-s", "78", "-e", "-b", "-u", "-t"],
+        21,
+    ),
+]
+
+
+@dataclass
+class Runs:
+    """The runs of one program over a pair: the least time, in nanoseconds, and the greatest peak, in bytes."""
+
+    took: int = 0
+    peak: int = 0
+    times: list = field(default_factory=list)
+
+    def add(self, took, peak):
+        self.times.append(took)
+        self.took = min(self.times)
+        self.peak = max(self.peak, peak)
+
+
+class Bench:
+    def __init__(self, program, folder):
+        self.program, self.folder = program, folder
+        self.spawn = os.path.join(folder, "spawn")
+        self.cat = shutil.which("cat")
+        self.tcpdump = find_tcpdump()
+
+    def run(self, words, cwd, output=os.devnull):
+        """Nanoseconds and peak bytes of one run."""
+        done = subprocess.run([self.spawn, output, *words], cwd=cwd, stdin=subprocess.DEVNULL, capture_output=True, text=True)
+        if done.returncode != 0:
+            sys.exit(f"bench: can't run {words[0]}: {done.stderr.strip()}")
+        took, peak, status = (int(word) for word in done.stdout.split())
+        if status != 0:
+            sys.exit(f"bench: {' '.join(words)} ended with status {status}: {done.stderr.strip()}")
+        return took, peak
+
+
+def find_tcpdump():
+    """The path of a tcpdump that can count, or None."""
+    path = shutil.which("tcpdump")
+    if path:
+        said = subprocess.run([path, "--help"], stdin=subprocess.DEVNULL, capture_output=True, text=True)
+        if "--count" in said.stdout + said.stderr:
+            return path
+    return None
+
+
+def filter_of(flow):
+    """What tcpdump counts: IPv6 with a Hop-by-Hop header that begins with a mark of this flow."""
+    return f"ip6[6] == 0 and ip6[42:2] == 0x1204 and (ip6[44:4] & 0xfffff000) == {flow << 12:#x}"
+
+
+def read(*path):
+    with open(os.path.join(*path)) as file:
+        return file.read()
+
+
+def same(one, other):
+    """Whether two files have the same bytes."""
+    return subprocess.run(["cmp", one, other]).returncode == 0
+
+
+UP, DOWN = "up.pcap", "down.pcap"
+
+
+class Measured:
+    """A pair with its files, and the runs over them. Programs run in its folder, since a name has at most 255 bytes."""
+
+    def __init__(self, bench, pair):
+        self.bench, self.pair = bench, pair
+        self.folder = os.path.join(bench.folder, pair.name)
+        self.cat, self.link, self.cat_up, self.show, self.tcpdump = (Runs() for _ in range(5))
+
+    def make(self):
+        os.makedirs(self.folder, exist_ok=True)
+        words = [os.path.join(self.bench.folder, "captures"), *self.pair.words, self.folder]
+        if subprocess.run(words).returncode != 0:
+            sys.exit(f"bench: the captures of {self.pair.name} can't be made")
+        self.words = read(self.folder, "words").split()
+        self.flows = [int(flow) for flow in read(self.folder, "flows").split()]
+
+    def remove(self):
+        for name in (UP, DOWN, "up.txt"):
+            path = os.path.join(self.folder, name)
+            if os.path.exists(path):
+                os.remove(path)
+
+    def run(self, words, output=os.devnull):
+        return self.bench.run(words, self.folder, output)
+
+    def link_words(self, flow):
+        return [self.bench.program, "link", *self.words, str(flow), UP, DOWN]
+
+    def show_words(self):
+        return [self.bench.program, "show", UP]
+
+    def table(self, flow):
+        return os.path.join(self.folder, f"table-{flow}")
+
+    def is_right(self):
+        """Whether the program prints what captures.c counted, and tcpdump counts as many packets."""
+        printed = os.path.join(self.folder, "printed")
+        for flow in self.flows:
+            self.run(self.link_words(flow), printed)
+            if not same(printed, self.table(flow)):
+                print(f"  table of flow {flow}: wrong")
+                return False
+        blocks = len(read(self.table(self.flows[0])).splitlines()) - 1
+        print(f"  tables: right ({len(self.flows)} flows, {blocks} blocks)")
+        if self.pair.shown:
+            self.run(self.show_words(), printed)
+            if not same(printed, os.path.join(self.folder, "up.txt")):
+                print("  lines of show: wrong")
+                return False
+            print("  lines of show: right")
+        if self.bench.tcpdump:
+            got = sum(self.count(capture, printed) for capture in (UP, DOWN))
+            rows = [row.split(",") for row in read(self.table(self.flows[0])).splitlines()[1:]]
+            wanted = sum(int(row[1]) + int(row[2]) for row in rows)
+            print(f"  tcpdump: counts {got:,} packets of the flow" + ("" if got == wanted else f", and not {wanted:,}"))
+        os.remove(printed)
+        return True
+
+    def tcpdump_words(self, capture):
+        return [self.bench.tcpdump, "--count", "-n", "-r", capture, filter_of(self.flows[0])]
+
+    def count(self, capture, printed):
+        self.run(self.tcpdump_words(capture), printed)
+        return int(read(printed).split()[0])
+
+    def measure(self):
+        for _ in range(self.pair.rounds):
+            self.cat.add(*self.run([self.bench.cat, UP, DOWN]))
+            self.link.add(*self.run(self.link_words(self.flows[0])))
+            self.cat_up.add(*self.run([self.bench.cat, UP]))
+            self.show.add(*self.run(self.show_words()))
+            if self.bench.tcpdump:
+                took, peak = zip(*(self.run(self.tcpdump_words(capture)) for capture in (UP, DOWN)))
+                self.tcpdump.add(sum(took), max(peak))
+
+    def times_cat(self):
+        """How many times as long as `cat` of the same files `link`, `show` and `tcpdump` take."""
+        return self.link.took / self.cat.took, self.show.took / self.cat_up.took, self.tcpdump.took / self.cat.took
+
+    def tell(self):
+        link, show, tcpdump = self.times_cat()
+        print(f"  cat of both files:      {ms(self.cat)}")
+        print(f"  link:                   {ms(self.link)}  {link:6.2f} times cat of both")
+        print(f"  cat of one file:        {ms(self.cat_up)}")
+        print(f"  show of one file:       {ms(self.show)}  {show:6.2f} times cat of one")
+        if self.bench.tcpdump:
+            ratio = self.link.took / self.tcpdump.took
+            print(f"  tcpdump of both files:  {ms(self.tcpdump)}  {tcpdump:6.2f} times cat of both")
+            print(f"  link / tcpdump:         {ratio:.2f} (target: at most 1: {met(ratio <= 1)}; if possible at most 0.5: {met(ratio <= 0.5)})")
+        print(f"  peak memory of link:    {mb(self.link)} (target: at most {MOST_BYTES // 10**6} MB: {met(self.link.peak <= MOST_BYTES)})")
+        print(f"  peak memory of show:    {mb(self.show)}")
+
+    def row(self, about):
+        """The row of the table in README.md."""
+        link, show, tcpdump = self.times_cat()
+        times = [ms(self.cat), ms(self.link), ms(self.show)]
+        ratios = [f"{link:.1f}", f"{show:.1f}"]
+        if self.bench.tcpdump:
+            times.append(ms(self.tcpdump))
+            ratios += [f"{tcpdump:.1f}", f"{self.link.took / self.tcpdump.took:.2f}"]
+        else:
+            times.append("-")
+            ratios += ["-", "-"]
+        cells = [*about, self.pair.name, *times, *ratios, mb(self.link), mb(self.show)]
+        return "| " + " | ".join(cell.strip() for cell in cells) + " |"
+
+
+def ms(runs):
+    return f"{runs.took / 1e6:7.1f} ms"
+
+
+def mb(runs):
+    return f"{runs.peak / 1e6:.1f} MB"
 
 
 def met(truth):
     return "met" if truth else "not met"
 
 
-def main(words):
-    cat = [shutil.which("cat"), *words[-2:]]
-    runs = [(run(cat), run(words)) for _ in range(RUNS)]
-    of_cat = min(took for (took, _), _ in runs)
-    of_program = min(took for _, (took, _) in runs)
-    peak = max(bytes_ for _, (_, bytes_) in runs)
-    ratio = of_program / of_cat
-    print(f"cat: {of_cat * 1000:.1f} ms")
-    print(f"link: {of_program * 1000:.1f} ms")
-    print(f"ratio: {ratio:.1f} (target: at most {MOST_TIMES_CAT}: {met(ratio <= MOST_TIMES_CAT)})")
-    print(f"peak memory: {peak / 1e6:.1f} MB (target: at most {MOST_BYTES // 10**6} MB: {met(peak <= MOST_BYTES)})")
+def about():
+    """The date, the machine and the toolchain."""
+    date = subprocess.run(["date", "+%Y-%m-%d"], capture_output=True, text=True).stdout.strip()
+    memory = os.sysconf("SC_PAGE_SIZE") * os.sysconf("SC_PHYS_PAGES") / 2**30
+    machine = f"{platform.machine()}, {os.cpu_count()} processors, {memory:.0f} GiB"
+    toolchain = "-"
+    if shutil.which("rt"):
+        toolchain = subprocess.run(["rt", "version"], stdin=subprocess.DEVNULL, capture_output=True, text=True).stdout.strip()
+    return date, machine, toolchain
+
+
+def tell_memory(measured):
+    """Whether ten times the records take the same memory."""
+    peaks = {each.pair.name: each.link.peak for each in measured}
+    if "short" in peaks and "tenfold" in peaks:
+        more = peaks["tenfold"] - peaks["short"]
+        print(f"peak memory of link for ten times the records: {more / 1e6:+.2f} MB (target: the same: {met(more <= SAME_BYTES)})")
+
+
+def main(program, folder, *names):
+    known = [pair.name for pair in PAIRS]
+    for name in names:
+        if name not in known:
+            sys.exit(f"bench: there is no pair '{name}'; there are: {' '.join(known)}")
+    bench = Bench(program, folder)
+    if not bench.tcpdump:
+        print("tcpdump: skipped, since none is installed that has --count")
+    measured, wrong = [], 0
+    for pair in PAIRS:
+        if names and pair.name not in names:
+            continue
+        print(f"{pair.name}: {pair.what}", flush=True)
+        each = Measured(bench, pair)
+        each.make()
+        try:
+            if each.is_right():
+                each.measure()
+                each.tell()
+                measured.append(each)
+            else:
+                wrong += 1
+        finally:
+            each.remove()
+        sys.stdout.flush()
+    tell_memory(measured)
+    if measured:
+        print("rows for bench/README.md:")
+        words = about()
+        for each in measured:
+            print(each.row(words))
+    return 1 if wrong else 0
 
 
 if __name__ == "__main__":
-    main(sys.argv[1:])
+    sys.exit(main(*sys.argv[1:]))

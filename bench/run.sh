@@ -1,13 +1,22 @@
 #!/usr/bin/env bash
-# Measures `link` over two big captures: first that its table is right, then its time as a multiple of that of `cat` over
-# the same files, and its peak memory. Status 0 where the table is right, whether or not a target is met.
+# Measures `link` and `show` over big captures: first that what they print is right, then their times beside those of `cat`
+# and `tcpdump` over the same files, and their peak memory. The words name pairs of captures; without any all are measured.
+# Status 0 where the tables are right, whether or not a target is met.
 set -u
 
 here=$(dirname -- "$(readlink -f -- "${BASH_SOURCE[0]}")")
 top=$(dirname -- "$here")
 out=$here/out
 
-python3 "$here/make.py" "$out" || exit 1
+compiler=${CC:-cc}
+if ! command -v "$compiler" >/dev/null; then
+    echo "bench: there is no C compiler '$compiler'; set CC to one"
+    exit 1
+fi
+mkdir -p -- "$out" || exit 1
+for tool in captures spawn; do
+    "$compiler" -O2 -o "$out/$tool" "$here/$tool.c" || exit 1
+done
 
 # With no words the script builds the program where that is due, and the program ends with status 2.
 "$top/altmark" </dev/null 2>"$out/stderr"
@@ -18,14 +27,4 @@ if [[ $got != 2 ]]; then
     exit 1
 fi
 
-cd -- "$out" || exit 1
-mapfile -t words <words
-"$top/altmark" "${words[@]}" up.pcap down.pcap >printed
-got=$?
-if [[ $got != 0 ]] || ! cmp printed table; then
-    echo "table: wrong (status $got)"
-    exit 1
-fi
-echo "table: right ($(($(wc -l <table) - 1)) blocks)"
-
-python3 "$here/measure.py" "$top/crates/am_cli/out/am_cli" "${words[@]}" up.pcap down.pcap
+exec python3 "$here/measure.py" "$top/crates/am_cli/out/am_cli" "$out" "$@"

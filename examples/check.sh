@@ -72,7 +72,7 @@ fi
 # The files are those that the script beside them writes.
 python3 "$here/make.py" "$scratch/made"
 (cd -- "$scratch/made" && find . -type f | LC_ALL=C sort) >"$scratch/made.list"
-(cd -- "$here" && find ./two ./chains ./bad -type f ! -name README.md | LC_ALL=C sort) >"$scratch/kept.list"
+(cd -- "$here" && find ./two ./chains ./forms ./mixed ./bad -type f ! -name README.md | LC_ALL=C sort) >"$scratch/kept.list"
 if cmp -s "$scratch/made.list" "$scratch/kept.list"; then tally 'names of the example files' yes; else tally 'names of the example files' no; fi
 while IFS= read -r name; do
     if cmp -s -- "$scratch/made/$name" "$here/$name"; then tally "bytes of $name" yes; else tally "bytes of $name" no; fi
@@ -89,7 +89,7 @@ head -c 24 u.pcap >"$scratch/head.pcap"
 expect 'captures without records' 0 "$head_line" '' link 10000000000 0 74565 "$scratch/head.pcap" "$scratch/head.pcap"
 expect 'nothing left' 0 $head_line$'\n0,2,0,2\n1,3,0,3\n2,1,0,1' '' link 10000000000 0 74565 u.pcap "$scratch/head.pcap"
 
-# What `show` prints of each record. `link` wants every record marked, and `show` wants none.
+# What `show` prints of each record. It asks nothing of them; `link` asks that no headers are cut.
 cd -- "$top" || exit 1
 expect_file 'show, from the top' 0 "$here/two/u.txt" '' show examples/two/u.pcap
 expect_file 'show, chains from the top' 0 "$here/chains/chains.txt" '' show examples/chains/chains.pcap
@@ -97,7 +97,26 @@ cd -- "$here/chains" || exit 1
 expect_file 'show chains' 0 chains.txt '' show chains.pcap
 expect_file 'show v.pcap' 0 ../two/v.txt '' show ../two/v.pcap
 expect 'show a capture without records' 0 '' '' show "$scratch/head.pcap"
-expect 'chains as UP' 3 '' 'altmark: chains.pcap: capture is not plain: record 1' link 10000000000 0 74565 chains.pcap ../two/v.pcap
+expect 'chains as UP' 3 '' 'altmark: chains.pcap: headers of record 17 are cut' link 10000000000 0 74565 chains.pcap ../two/v.pcap
+
+# The records of two/ in every form: each form of UP beside each of DOWN gives the one table, and each is shown.
+cd -- "$here/forms" || exit 1
+for up in u-*.pcap; do
+    for down in v-*.pcap; do
+        expect "forms/$up and forms/$down" 0 "$table" '' link 10000000000 0 74565 "$up" "$down"
+    done
+done
+for file in *.pcap; do
+    expect_file "show forms/$file" 0 "${file%.pcap}.txt" '' show "$file"
+done
+
+# The same packets among other traffic, which `link` passes over.
+cd -- "$here/mixed" || exit 1
+expect 'mixed' 0 "$table" '' link 10000000000 0 74565 u.pcap v.pcap
+expect 'mixed, another flow' 0 $head_line$'\n0,1,0,1' '' link 10000000000 0 74566 u.pcap v.pcap
+expect 'mixed beside the flow alone' 0 "$table" '' link 10000000000 0 74565 u.pcap ../two/v.pcap
+expect_file 'show mixed/u.pcap' 0 u.txt '' show u.pcap
+expect_file 'show mixed/v.pcap' 0 v.txt '' show v.pcap
 cd -- "$here/two" || exit 1
 
 # Words that are no command.
@@ -172,7 +191,8 @@ expect 'a folder as UP' 5 '' 'altmark: ../two: read fault' link 10000000000 0 74
 expect 'a folder as DOWN' 5 '' 'altmark: ../two: read fault' link 10000000000 0 74565 "$good" ../two
 expect 'a file as a folder' 5 '' 'altmark: empty.pcap/u: read fault' link 10000000000 0 74565 empty.pcap/u "$good"
 
-# Limits: 262144 bytes of a record and 16777216 of a file. These files are made here, since they aren't small.
+# Files that are made here, since they aren't small: a record of 262144 bytes and one of more, a file of more than 16 MiB,
+# records of many lengths, so that a read of the system ends in any place of one, and zeros.
 cd -- "$scratch" || exit 1
 python3 - "${two[0]}" <<'END'
 import struct, sys
@@ -185,34 +205,46 @@ def padded(length):
 def write(name, *parts):
     open(name, "wb").write(b"".join(parts))
 
-write("record-of-most.pcap", head, padded(262144), one)
-write("record-of-more.pcap", head, padded(262145), one)
-count = (16777216 - len(head)) // len(one) - 1
-rest = 16777216 - len(head) - count * len(one) - 16
-write("file-of-most.pcap", head, one * count, padded(rest))
-write("file-of-more.pcap", head, one * count, padded(rest + 1))
-write("zeros-of-most.pcap", bytes(16777216))
-write("zeros-of-more.pcap", bytes(16777217))
-open("count", "w").write(str(count + 1))
+def text(name, lengths):
+    mark = "ip6 0:8,=59 74565/0/1 -"
+    open(name, "w").writelines(f"{k} 2000000000 {n} {n} {mark}\n" for k, n in enumerate(lengths, 1))
 
-shown = "1000000000 48 48 ip6 0:8,=59 74565/0/1 -\n"
-open("record-of-most.txt", "w").write(f"1 2000000000 262144 262144 ip6 0:8,=59 74565/0/1 -\n2 {shown}")
-open("file-of-most.txt", "w").writelines(f"{k} {shown}" for k in range(1, count + 1))
-open("file-of-most.txt", "a").write(f"{count + 1} 2000000000 {rest} {rest} ip6 0:8,=59 74565/0/1 -\n")
+write("record-of-most.pcap", head, padded(262144), padded(48))
+text("record-of-most.txt", [262144, 48])
+write("record-of-more.pcap", head, padded(262145), one)
+many = [48] * 300000
+write("many.pcap", head, *map(padded, many))
+text("many.txt", many)
+lengths = [48 + k * k % 97 for k in range(20000)]
+write("lengths.pcap", head, *map(padded, lengths))
+text("lengths.txt", lengths)
+write("zeros.pcap", bytes(1000000))
 END
-count=$(<count)
 expect 'a record of 262144 bytes' 0 $head_line$'\n0,2,2,0' '' link 10000000000 0 74565 record-of-most.pcap record-of-most.pcap
-expect 'a record of 262145 bytes' 3 '' 'altmark: record-of-more.pcap: capture is not plain: record 1' link 10000000000 0 74565 record-of-more.pcap missing.pcap
-expect 'a file of 16777216 bytes' 0 $head_line$'\n'"0,$count,$count,0" '' link 10000000000 0 74565 file-of-most.pcap file-of-most.pcap
-expect 'a file of 16777217 bytes' 3 '' 'altmark: file-of-more.pcap: too long' link 10000000000 0 74565 file-of-more.pcap missing.pcap
-expect 'a file of 16777217 bytes as DOWN' 3 '' 'altmark: file-of-more.pcap: too long' link 10000000000 0 74565 "${two[0]}" file-of-more.pcap
+expect 'a record of 262145 bytes' 3 '' 'altmark: record-of-more.pcap: record 1 is too long: 262145' link 10000000000 0 74565 record-of-more.pcap missing.pcap
+expect 'a file of more than 16 MiB' 0 $head_line$'\n0,300000,300000,0' '' link 10000000000 0 74565 many.pcap many.pcap
+expect 'records of many lengths' 0 $head_line$'\n0,20000,300000,-280000' '' link 10000000000 0 74565 lengths.pcap many.pcap
 expect_file 'show, a record of 262144 bytes' 0 record-of-most.txt '' show record-of-most.pcap
-expect 'show, a record of 262145 bytes' 3 '' 'altmark: record-of-more.pcap: capture is not plain: record 1' show record-of-more.pcap
-expect_file 'show, a file of 16777216 bytes' 0 file-of-most.txt '' show file-of-most.pcap
-expect 'show, a file of 16777217 bytes' 3 '' 'altmark: file-of-more.pcap: too long' show file-of-more.pcap
-expect 'show, 16777217 zeros' 3 '' 'altmark: zeros-of-more.pcap: too long' show zeros-of-more.pcap
-expect '16777216 zeros' 3 '' 'altmark: zeros-of-most.pcap: capture is not plain: record 0' link 10000000000 0 74565 zeros-of-most.pcap missing.pcap
-expect '16777217 zeros' 3 '' 'altmark: zeros-of-more.pcap: too long' link 10000000000 0 74565 zeros-of-more.pcap missing.pcap
+expect 'show, a record of 262145 bytes' 3 '' 'altmark: record-of-more.pcap: record 1 is too long: 262145' show record-of-more.pcap
+expect_file 'show, a file of more than 16 MiB' 0 many.txt '' show many.pcap
+expect_file 'show, records of many lengths' 0 lengths.txt '' show lengths.pcap
+expect 'show, zeros' 3 '' 'altmark: zeros.pcap: bad magic' show zeros.pcap
+expect 'zeros' 3 '' 'altmark: zeros.pcap: bad magic' link 10000000000 0 74565 zeros.pcap missing.pcap
+
+# A capture that comes through a pipe, so many bytes at a time.
+for piece in 1 7 100; do
+    mkfifo pipe
+    timeout 20 python3 - $piece "${two[0]}" <<'END' &
+import sys
+piece, source = int(sys.argv[1]), open(sys.argv[2], "rb").read()
+with open("pipe", "wb", buffering=0) as pipe:
+    for at in range(0, len(source), piece):
+        pipe.write(source[at : at + piece])
+END
+    expect_file "show, a pipe of $piece bytes at a time" 0 "$here/two/u.txt" '' show pipe
+    wait
+    rm -f pipe
+done
 
 # Streams that can't be written.
 if [[ -c /dev/full && -w /dev/full ]]; then
@@ -228,8 +260,8 @@ if [[ -c /dev/full && -w /dev/full ]]; then
     }
     show_to_full 'show to a full device' 6 'altmark: write fault' "$here/chains/chains.pcap"
     show_to_full 'show to a full device, refused at record 2' 6 'altmark: write fault' "$here/bad/record-too-long.pcap"
-    show_to_full 'show to a full device, refused at the file header' 3 'altmark: zeros-of-most.pcap: capture is not plain: record 0' zeros-of-most.pcap
-    show_to_full 'show to a full device, refused at record 1' 3 'altmark: record-of-more.pcap: capture is not plain: record 1' record-of-more.pcap
+    show_to_full 'show to a full device, refused at the file header' 3 'altmark: zeros.pcap: bad magic' zeros.pcap
+    show_to_full 'show to a full device, refused at record 1' 3 'altmark: record-of-more.pcap: record 1 is too long: 262145' record-of-more.pcap
     show_to_full 'show to a full device, no records' 0 '' "$scratch/head.pcap"
     "$altmark" </dev/null >stdout 2>/dev/full
     got=$?
@@ -250,6 +282,63 @@ if [[ $got == 3 ]] && head -n 2 "$here/two/u.txt" | cmp -s - stdout; then tally 
 "$altmark" link 10000000000 0 74565 missing.pcap "${two[1]}" </dev/null >stdout 2>&-
 got=$?
 if [[ $got == 4 && ! -s stdout ]]; then tally 'a missing file, with standard error closed' yes; else tally 'a missing file, with standard error closed' no "status $got"; fi
+
+# Captures that other tools wrote, where these are installed: the records of an example in a file of their making.
+have() {
+    command -v "$1" >/dev/null && return 0
+    echo "skipped: captures that $1 writes: it isn't installed"
+    return 1
+}
+
+# same NAME CAPTURE: CAPTURE has the records of mixed/v.pcap, so `show` and `link` print of both the same.
+same() {
+    expect_file "show, $1" 0 "$here/mixed/v.txt" '' show "$2"
+    expect "$1" 0 "$table" '' link 10000000000 0 74565 "$here/mixed/u.pcap" "$2"
+}
+
+if have editcap; then
+    for kind in pcap nsecpcap; do
+        editcap -F $kind "$here/mixed/v.pcap" "editcap-$kind.pcap" && same "written by editcap as $kind" "editcap-$kind.pcap"
+    done
+    # The first 54 bytes of each frame: an Ethernet and an IPv6 header, and nothing of the Hop-by-Hop header. Then the first
+    # 62, which is all of the headers.
+    editcap -F pcap -s 54 "$here/forms/u-big-nano-ethernet.pcap" short.pcap &&
+        expect 'cut short by editcap' 3 '' 'altmark: short.pcap: headers of record 1 are cut' link 10000000000 0 74565 short.pcap missing.pcap
+    editcap -F pcap -s 62 "$here/forms/u-big-nano-ethernet.pcap" long.pcap &&
+        expect 'cut by editcap behind the headers' 0 "$table" '' link 10000000000 0 74565 long.pcap "$here/mixed/v.pcap"
+    editcap -F pcapng "$here/mixed/v.pcap" v.pcapng &&
+        expect 'pcapng, written by editcap' 3 '' 'altmark: v.pcapng: bad magic' link 10000000000 0 74565 v.pcapng missing.pcap
+fi
+if have tcpdump; then
+    # It gives up the right to open files, so it reads and writes the standard streams.
+    for unit in micro nano; do
+        tcpdump --time-stamp-precision=$unit -r - -w - <"$here/mixed/v.pcap" >"tcpdump-$unit.pcap" 2>/dev/null &&
+            same "written by tcpdump with ${unit}seconds" "tcpdump-$unit.pcap"
+    done
+fi
+if have gzip; then
+    gzip -c "${two[0]}" >u.pcap.gz
+    expect 'a capture in gzip' 3 '' 'altmark: u.pcap.gz: bad magic' show u.pcap.gz
+fi
+
+# A capture of this machine's own loopback, where the system lets one be taken: six pings, 64 bytes of each frame.
+if command -v tcpdump >/dev/null && ping -6 -n -c 1 -W 1 ::1 >/dev/null 2>&1; then
+    ping -6 -n -i 0.2 -c 30 ::1 >/dev/null 2>&1 &
+    pinging=$!
+    if timeout 5 tcpdump -i lo -c 6 -s 64 -w - 'icmp6 and (ip6[40] == 128 or ip6[40] == 129)' >taken.pcap 2>/dev/null; then
+        "$altmark" show taken.pcap </dev/null >stdout 2>stderr
+        got=$?
+        shape='^[1-6] [1-9][0-9]{18} 64 [1-9][0-9]* ip6 =58 - -$'
+        if [[ $got == 0 && $(wc -l <stdout) == 6 && $(grep -cE "$shape" stdout) == 6 && ! -s stderr ]]; then
+            tally 'show, a capture of loopback' yes
+        else
+            tally 'show, a capture of loopback' no "status $got, '$(head -c 200 stdout stderr | tr '\n' '|')'"
+        fi
+        expect 'a capture of loopback' 0 "$head_line" '' link 10000000000 0 74565 taken.pcap taken.pcap
+    fi
+    kill $pinging 2>/dev/null
+    wait
+fi
 
 # Each of the two captures cut at each of its lengths, as UP, as DOWN, and shown.
 exec 4>&1

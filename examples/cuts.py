@@ -4,8 +4,10 @@ whole, and `show`.
 
     cuts.py ALTMARK U V
 
-Beside U and V, which are .pcap files, stands what `show` prints of them whole, as .txt. A line on standard output for each of the first runs that went wrong; the counts of runs and of wrong ones go to
-descriptor 3.
+Beside U and V, which are .pcap files, stands what `show` prints of them whole, as .txt. A capture that is cut behind its
+file header or behind a record is a whole one. Each other cut is refused: the file ends in that record, or, for 0, in the
+file header. A line on standard output for each of the first runs that went wrong; the counts of runs and of wrong ones go
+to descriptor 3.
 """
 import os
 import subprocess
@@ -18,7 +20,7 @@ SHOWN = 10
 
 
 def wanted(length):
-    """The status, and the number of the record that is refused if there is one: 0 for the file header."""
+    """The status, and the number of the record that the file ends in if it is refused: 0 for the file header."""
     if length < HEAD:
         return 3, 0
     if (length - HEAD) % RECORD:
@@ -58,7 +60,7 @@ def main(altmark, u, v):
             cut, length, words, lines = job
             done = subprocess.run([altmark, *words], cwd=folder, stdin=subprocess.DEVNULL, capture_output=True)
             status, number = wanted(length)
-            line = f"altmark: {cut}: capture is not plain: record {number}\n".encode() if status else b""
+            line = f"altmark: {cut}: file ends in record {number}\n".encode() if status else b""
             right = done.returncode == status and done.stderr == line
             if lines is not None:
                 right = right and done.stdout == lines

@@ -1,5 +1,6 @@
 #!/usr/bin/env python3
-"""Writes the example captures, each with what the program says of it beside it: those of two/, chains/ and bad/.
+"""Writes the example captures, each with what the program says of it beside it: those of two/, chains/, forms/, mixed/
+and bad/.
 
     make.py [FOLDER]
 
@@ -11,8 +12,14 @@ import os
 import struct
 import sys
 
-# The file header: magic of microseconds, version 2.4, zone, accuracy, snapshot length 262144, link type 101 (raw IP).
+# A file header: magic of microseconds, version 2.4, zone, accuracy, snapshot length 262144, link type 101 (raw IP).
 HEAD = bytes.fromhex("d4c3b2a1 02000400 00000000 00000000 00000400 65000000")
+
+# What the form of a capture is made of: which byte of a number comes first, as struct has it; the magic, and how many
+# nanoseconds a fraction counts; the link type.
+ORDERS = {"little": "<", "big": ">"}
+UNITS = {"micro": (0xA1B2C3D4, 1000), "nano": (0xA1B23C4D, 1)}
+LINKS = {"ethernet": 1, "ip": 101, "ipv6": 229}
 
 ADDRESSES = bytes.fromhex("20010db8000100000000000000000001" "20010db8000200000000000000000001")
 
@@ -23,11 +30,11 @@ def packet(data, *, version=6, payload=8, following=0, length=0, option="1204", 
     return fixed + ADDRESSES + bytes([0x3B, length]) + bytes.fromhex(option + data) + tail
 
 
-def record(seconds, fraction, bytes_, *, captured=None, original=None):
-    """A record of a capture: 16 bytes of header, little-endian, and the captured bytes."""
+def record(seconds, fraction, bytes_, *, captured=None, original=None, order="little"):
+    """A record of a capture: 16 bytes of header and the captured bytes."""
     captured = len(bytes_) if captured is None else captured
     original = len(bytes_) if original is None else original
-    return struct.pack("<IIII", seconds, fraction, captured, original) + bytes_
+    return struct.pack(ORDERS[order] + "IIII", seconds, fraction, captured, original) + bytes_
 
 
 def marked(seconds, fraction, data):
@@ -189,49 +196,202 @@ def first(count, text):
     return "".join(text.splitlines(keepends=True)[:count])
 
 
-# Files that aren't plain captures, by name, which says the fault: the record that is refused, 0 for the file header; the
-# bytes; and the lines that `show` prints before it refuses.
+def file_head(order, unit, link):
+    """A file header in this form, with zone and accuracy 0 and the snapshot length 262144."""
+    return struct.pack(ORDERS[order] + "IHHIIII", UNITS[unit][0], 2, 4, 0, 0, 262144, LINKS[link])
+
+
+# An Ethernet header is two addresses and the type of what follows. A tag is a type of its own and two bytes more, and
+# stands before that type (IEEE 802.1Q).
+STATIONS = bytes.fromhex("020000000002 020000000001")
+TYPE_IP6, TYPE_IP4, TYPE_ARP, TYPE_MPLS = "86dd", "0800", "0806", "8847"
+TAG, SERVICE_TAG = "81000064", "88a800c8"
+
+
+def frame(packet_, *, kind=TYPE_IP6, tags=""):
+    """An Ethernet frame: 14 bytes and 4 for each tag, then the packet."""
+    return STATIONS + bytes.fromhex(tags + kind) + packet_
+
+
+# Which of the Ethernet forms have tags in their frames. The other two have none.
+TAGGED = {("little", "nano"): TAG, ("big", "micro"): SERVICE_TAG + TAG}
+
+
+def forms():
+    """The records of two/ in each of the twelve forms: name, capture, and what `show` prints of it. The readings and the
+    packets are the same, so in raw IP and raw IPv6 the lines are those of two/. A frame's header counts in both lengths."""
+    for name, late, seen, shown in [("u", 0, U_SEEN, U_SHOWN), ("v", 500, V_SEEN, V_SHOWN)]:
+        for order in ORDERS:
+            for unit, (_, counts) in UNITS.items():
+                for link in LINKS:
+                    capture, lines = file_head(order, unit, link), shown
+                    tags = TAGGED.get((order, unit), "")
+                    for seconds, data in seen:
+                        bytes_ = packet(data) if link != "ethernet" else frame(packet(data), tags=tags)
+                        capture += record(seconds, late * 1000 // counts, bytes_, order=order)
+                    if link == "ethernet":
+                        length = {"": 62, TAG: 66, SERVICE_TAG + TAG: 70}[tags]
+                        lines = shown.replace(" 48 48 ", f" {length} {length} ")
+                    yield f"{name}-{order}-{unit}-{link}", capture, lines
+    # Whatever stands in the fields that are ignored: zone, accuracy, snapshot length, upper half of the link type.
+    yield "u-ignored-fields", HEAD[:8] + 12 * b"\xff" + bytes.fromhex("6500ffff") + U[24:], U_SHOWN
+
+
+# The flow's packets of two/ among other traffic. A record is: second, what `show` prints of the packet, the captured bytes,
+# and how long it was where it wasn't captured whole. Those that `link` counts for flow 74565 stand first in their second.
+# An IPv4 packet of 28 bytes, an ARP request (RFC 826), an empty MLD report (RFC 3810).
+IP4 = bytes.fromhex("4500001c 00000000 40110000 c0000201 c0000202 3039003500080000")
+ARP = bytes.fromhex("0001080006040001 020000000001 c0000201 000000000000 c0000202")
+REPORT = bytes.fromhex("8f00000000000000")
+ICMP6 = 58
+
+MIXED_U = [
+    (1, "48 48 ip6 0:8,=59 74565/0/1 -", packet(CLEAR_DELAY)),
+    (1, "28 28 other", IP4),
+    (2, "64 64 ip6 0:16,=17 74565/0/0 -", ip6(HOP_BY_HOP, header(UDP, ALERT, mark(CLEAR), PAD4) + DATAGRAM)),
+    (2, "64 1500 ip6 =6 - -", ip6(TCP, bytes(24), payload=1460), 1500),
+    (2, "48 48 ip6 0:8,=59 74566/0/0 -", packet("12346000")),
+    (3, "48 48 ip6 60:8,=59 - 74565/0/0", ip6(DESTINATION, MARKED)),
+    (3, "56 56 ip6 0:8,=17 - -", ip6(HOP_BY_HOP, header(UDP, ALERT, PAD2) + DATAGRAM)),
+    # Colour 1 before second 5: no block of that colour has a window so early.
+    (4, "48 48 ip6 0:8,=59 74565/1/0 -", packet(SET)),
+    (5, "56 56 ip6 0:16,=59 - -", ip6(HOP_BY_HOP, header(NONE, "12051234580000", PAD7))),
+    (6, "56 56 ip6 bad@48 - -", ip6(HOP_BY_HOP, header(NONE, mark(CLEAR), "0109000000000000"))),
+    (7, "48 48 ip6 bad@40 - -", packet(CLEAR, payload=7)),
+    (8, "56 64 ip6 cut - cut", ip6(DESTINATION, MARKED_24)[:56], 64),
+    (9, "88 88 ip6 =41 - -", ip6(IP6, ip6(HOP_BY_HOP, MARKED))),
+    (11, "48 48 ip6 0:8,=59 74565/1/1 -", packet("12345fff")),
+    (12, "48 1448 ip6 0:8,=6 74565/1/0 -", ip6(HOP_BY_HOP, header(TCP, mark(SET)), payload=1408), 1448),
+    (13, "52 72 ip6 0:8,cut 74565/1/0 cut", ip6(HOP_BY_HOP, header(DESTINATION, mark(SET)) + MARKED_24)[:52], 72),
+    (14, "48 48 other", packet(SET, version=4)),
+    (15, "0 0 other", b""),
+    (16, "20 20 ip6 bad@20 - -", packet(SET)[:20]),
+    (21, "56 56 ip6 0:16,=59 74565/0/1 -", ip6(HOP_BY_HOP, header(NONE, mark(CLEAR_DELAY), PAD2, mark("fffffc00")))),
+]
+
+MIXED_V = [
+    (1, "62 62 ip6 0:8,=59 74565/0/1 -", frame(packet(CLEAR_DELAY))),
+    (1, "60 60 other", frame(ARP + bytes(18), kind=TYPE_ARP)),
+    (2, "66 66 ip6 0:8,=59 74565/0/0 -", frame(packet(CLEAR), tags=TAG)),
+    (2, "60 60 other", frame(IP4 + bytes(18), kind=TYPE_IP4)),
+    (3, "60 60 ip6 =59 - -", frame(ip6(NONE) + bytes(6))),
+    (4, "70 70 ip6 0:8,=58 - -", frame(ip6(HOP_BY_HOP, header(ICMP6, ALERT, PAD2) + REPORT))),
+    (11, "70 70 ip6 0:8,=59 74565/1/1 -", frame(packet(SET_DELAY), tags=SERVICE_TAG + TAG)),
+    (11, "74 74 other", frame(packet(SET), tags=SERVICE_TAG + TAG + TAG)),
+    (12, "66 66 other", frame(bytes(4) + packet(SET), kind=TYPE_MPLS)),
+    (12, "60 60 other", frame(bytes(46), kind="0026")),
+    (12, "10 10 other", frame(packet(SET))[:10]),
+    (12, "16 16 other", frame(packet(SET), tags=TAG)[:16]),
+    # Four bytes of a check sequence behind the packet.
+    (13, "66 66 ip6 0:8,=59 74565/1/0 -", frame(packet(SET) + bytes.fromhex("2f8a61b3"))),
+    (14, "42 42 ip6 bad@0 - -", frame(IP4)),
+    (15, "14 14 ip6 bad@0 - -", frame(b"")),
+    (16, "70 78 ip6 cut - cut", frame(ip6(DESTINATION, MARKED_24))[:70], 78),
+    (21, "62 62 ip6 0:8,=59 74565/0/1 -", frame(packet(CLEAR_DELAY))),
+]
+
+
+def mixed():
+    """Both captures by name, with what `show` prints of each: UP in raw IP, read on the second, and DOWN in Ethernet with
+    the highest byte first, read half a millisecond later."""
+    for name, order, unit, link, late, records in [
+        ("u", "little", "micro", "ip", 0, MIXED_U),
+        ("v", "big", "nano", "ethernet", 500000, MIXED_V),
+    ]:
+        capture, shown = file_head(order, unit, link), ""
+        for number, (second, text, bytes_, *original) in enumerate(records, 1):
+            capture += record(second, late, bytes_, original=original[0] if original else None, order=order)
+            shown += f"{number} {second}{late:09} {text}\n"
+        yield name, capture, shown
+
+
+# Files that both commands refuse, by name, which says the fault: what the line says behind the file's name, the bytes, and
+# the lines that `show` prints before it refuses.
+GZIP = bytes.fromhex("1f8b0800") + bytes(26)
+PCAPNG = bytes.fromhex("0a0d0d0a 1c000000 4d3c2b1a 01000000 ffffffffffffffff 1c000000")
+BIG = bytes.fromhex("a1b2c3d4 00020004 00000000 00000000 00040000 00000065")
+TOO_LONG = record(2, 0, packet(CLEAR), captured=262145, original=262145)
+
+
+def linked(number):
+    """A capture whose file header has this link type, all 32 bits of it."""
+    return HEAD[:20] + struct.pack("<I", number) + GOOD
+
+
 BROKEN = [
-    ("empty", 0, b"", ""),
-    ("head-cut", 0, HEAD[:23], ""),
-    ("magic-big-endian", 0, bytes.fromhex("a1b2c3d4 00020004 00000000 00000000 00040000 00000065") + GOOD, ""),
-    ("magic-nanoseconds", 0, bytes.fromhex("4d3cb2a1") + HEAD[4:] + GOOD, ""),
-    ("magic-gzip", 0, bytes.fromhex("1f8b0800") + bytes(26), ""),
-    ("version-2-3", 0, HEAD[:6] + bytes.fromhex("0300") + HEAD[8:] + GOOD, ""),
-    ("link-ethernet", 0, HEAD[:20] + bytes.fromhex("01000000") + GOOD, ""),
-    ("link-raw-ipv6", 0, HEAD[:20] + bytes.fromhex("e5000000") + GOOD, ""),
-    ("record-header-cut", 3, U[:162], first(2, U_SHOWN)),
-    ("record-bytes-cut", 6, U[:407], first(5, U_SHOWN)),
-    ("record-too-long", 2, HEAD + GOOD + record(2, 0, packet(CLEAR), captured=262145, original=262145), GOOD_SHOWN),
+    ("empty", "file ends in record 0", b"", ""),
+    ("head-cut", "file ends in record 0", HEAD[:23], ""),
+    ("head-cut-gzip", "file ends in record 0", GZIP[:23], ""),
+    ("magic-gzip", "bad magic", GZIP, ""),
+    ("magic-pcapng", "bad magic", PCAPNG, ""),
+    ("magic-modified", "bad magic", bytes.fromhex("34cdb2a1") + HEAD[4:] + GOOD, ""),
+    ("magic-halves-exchanged", "bad magic", bytes.fromhex("b2a1d4c3") + HEAD[4:] + GOOD, ""),
+    ("magic-before-version", "bad magic", bytes.fromhex("1f8b080002000300") + HEAD[8:] + GOOD, ""),
+    ("version-2-3", "bad version", HEAD[:6] + bytes.fromhex("0300") + HEAD[8:] + GOOD, ""),
+    ("version-3-4", "bad version", HEAD[:4] + bytes.fromhex("0300") + HEAD[6:] + GOOD, ""),
+    ("version-in-other-order", "bad version", HEAD[:4] + BIG[4:8] + HEAD[8:] + GOOD, ""),
+    ("version-before-link", "bad version", HEAD[:6] + bytes.fromhex("0300") + HEAD[8:20] + bytes.fromhex("71000000"), ""),
+    ("link-loopback", "unknown link type 0", linked(0), ""),
+    ("link-cooked", "unknown link type 113", linked(113), ""),
+    ("link-cooked-2", "unknown link type 276", linked(276), ""),
+    ("link-greatest", "unknown link type 65535", linked(65535), ""),
+    ("link-upper-bits", "unknown link type 113", linked(0x24000071), ""),
+    ("link-in-other-order", "unknown link type 0", HEAD[:20] + BIG[20:] + GOOD, ""),
+    ("record-header-cut", "file ends in record 3", U[:162], first(2, U_SHOWN)),
+    ("record-bytes-cut", "file ends in record 6", U[:407], first(5, U_SHOWN)),
+    ("record-too-long", "record 2 is too long: 262145", HEAD + GOOD + TOO_LONG, GOOD_SHOWN),
+    ("record-too-long-cut", "record 2 is too long: 262145", HEAD + GOOD + TOO_LONG[:16], GOOD_SHOWN),
+    ("record-of-other-order", "record 2 is too long: 805306368", HEAD + GOOD + record(2, 0, packet(CLEAR), order="big"), GOOD_SHOWN),
+    ("record-big-endian-cut", "file ends in record 1", BIG + record(1, 0, packet(CLEAR), order="big")[:63], ""),
 ]
 
-# Plain captures whose second record isn't marked as `link` wants it, by name: that record, and its line from `show`, which
-# refuses none of them.
-UNMARKED_FILES = [
-    ("record-too-short", record(2, 0, packet(CLEAR)[:47], original=48), "2 2000000000 47 48 ip6 cut cut cut\n"),
-    ("packet-version-4", record(2, 0, packet(CLEAR, version=4)), "2 2000000000 48 48 other\n"),
-    ("packet-payload-7", record(2, 0, packet(CLEAR, payload=7)), "2 2000000000 48 48 ip6 bad@40 - -\n"),
-    ("packet-destination-options", record(2, 0, packet(CLEAR, following=60)), "2 2000000000 48 48 ip6 60:8,=59 - 74565/0/0\n"),
-    ("packet-header-of-16", record(2, 0, packet(CLEAR, payload=16, length=1, tail=bytes.fromhex("010600000000 0000"))), "2 2000000000 56 56 ip6 0:16,=59 74565/0/0 -\n"),
-    ("mark-length-5", record(2, 0, packet(CLEAR, option="1205")), "2 2000000000 48 48 ip6 bad@42 - -\n"),
-    ("mark-absent", record(2, 0, packet("00000000", option="0104")), "2 2000000000 48 48 ip6 0:8,=59 - -\n"),
+# Records whose frame or Hop-by-Hop header has bytes that weren't captured, by the name of a file in which one of them stands
+# behind a good one: the bytes, how long it was, and what `show` prints of it. `link` refuses that file, and `show` doesn't.
+CUT_PACKETS = [
+    ("headers-cut", packet(CLEAR)[:44], 48, "ip6 cut cut cut"),
+    ("headers-cut-by-a-byte", packet(CLEAR)[:47], 48, "ip6 cut cut cut"),
+    ("headers-cut-of-another-flow", packet("fffff000")[:47], 48, "ip6 cut cut cut"),
+    ("headers-cut-in-fixed-header", ip6(NONE)[:39], 40, "ip6 cut cut cut"),
+    ("packet-not-captured", b"", 48, "cut"),
+]
+CUT_FRAMES = [
+    ("frame-cut", frame(IP4, kind=TYPE_IP4)[:10], 60, "cut"),
+    ("frame-cut-in-tags", frame(packet(CLEAR), tags=SERVICE_TAG + TAG)[:21], 70, "cut"),
+    ("frame-cut-in-packet", frame(packet(CLEAR))[:61], 62, "ip6 cut cut cut"),
 ]
 
 
-def line(name, number):
-    return f"altmark: {name}.pcap: capture is not plain: record {number}\n"
+def cut_headers():
+    """Each of these files by name: its bytes, and all that `show` writes of it."""
+    good_frame = file_head("little", "micro", "ethernet") + record(1, 0, frame(packet(CLEAR)))
+    for front, shown, records in [
+        (HEAD + GOOD, GOOD_SHOWN, CUT_PACKETS),
+        (good_frame, GOOD_SHOWN.replace(" 48 48 ", " 62 62 "), CUT_FRAMES),
+    ]:
+        for name, bytes_, original, text in records:
+            capture = front + record(2, 0, bytes_, original=original)
+            yield name, capture, shown + f"2 2000000000 {len(bytes_)} {original} {text}\n"
+    # The same as the first, and the file ends in record 3.
+    name, (_, bytes_, original, text) = "headers-cut-before-file-ends", CUT_PACKETS[0]
+    capture = HEAD + GOOD + record(2, 0, bytes_, original=original) + GOOD[:63]
+    yield name, capture, GOOD_SHOWN + f"2 2000000000 {len(bytes_)} {original} {text}\n" + line(name, "file ends in record 3")
+
+
+def line(name, refusal):
+    return f"altmark: {name}.pcap: {refusal}\n"
 
 
 def bad():
     """Each bad file by name: its bytes, the line that `link` writes of it, and all that `show` writes of it."""
-    for name, number, bytes_, printed in BROKEN:
-        yield name, bytes_, line(name, number), printed + line(name, number)
-    for name, second, printed in UNMARKED_FILES:
-        yield name, HEAD + GOOD + second, line(name, 2), GOOD_SHOWN + printed
+    for name, refusal, bytes_, printed in BROKEN:
+        yield name, bytes_, line(name, refusal), printed + line(name, refusal)
+    for name, bytes_, shown in cut_headers():
+        yield name, bytes_, line(name, "headers of record 2 are cut"), shown
 
 
 def files():
     assert (len(HEAD), len(packet(CLEAR)), len(GOOD), len(U), len(V)) == (24, 48, 64, 408, 344)
+    assert file_head("little", "micro", "ip") == HEAD and file_head("big", "micro", "ip") == BIG
     assert len(LONGEST) == 2048 and len(MARKED_24) == 24 and MARKED == packet(CLEAR)[40:]
     yield "two/u.pcap", U
     yield "two/u.txt", U_SHOWN.encode()
@@ -240,6 +400,12 @@ def files():
     capture, shown = chains()
     yield "chains/chains.pcap", capture
     yield "chains/chains.txt", shown.encode()
+    for name, capture, shown in forms():
+        yield f"forms/{name}.pcap", capture
+        yield f"forms/{name}.txt", shown.encode()
+    for name, capture, shown in mixed():
+        yield f"mixed/{name}.pcap", capture
+        yield f"mixed/{name}.txt", shown.encode()
     for name, bytes_, refused, shown in bad():
         yield f"bad/{name}.pcap", bytes_
         yield f"bad/{name}.line", refused.encode()

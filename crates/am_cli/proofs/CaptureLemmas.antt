@@ -1,119 +1,141 @@
--- The marked records of a capture: read one by one, and that the bytes settle them.
-use Rattle.std.specs.Prelude.{◌≢◌}
-use Rattle.std.proofs.lemmas.List.Sums.{sum_by-append}
-use Rattle.std.proofs.Common.{arith, refl, sym, subst, inl, inr, ◌≡◌, ℕ, ◌+◌, ◌*◌, ◌<◌, ◌≤◌, Bool, true, false, cond, List, [], ◌∷◌, ◌++◌, length, drop}
-use Rattle.am_opts.specs.Marking.{Marking, bit, Spells}
+-- The marked records of a capture: one more, how many they are, and that a record isn't both cut and not.
+use Rattle.std.proofs.Common.{arith, refl, sym, ap, subst, ◌∙◌, ◌≡◌, ◌≢◌, ℕ, ◌+◌, ◌≤◌, Bool, List, [], ◌∷◌, ◌++◌, length, take, drop, Ok, cond, inl, inr, append_assoc}
+use Rattle.std.proofs.lemmas.List.{length-append, append-nil, take-append-le, drop-append-le}
+use Rattle.std.proofs.lemmas.List.Sums.{sum_by-append, count_by-le-length}
+use Rattle.std.proofs.lemmas.List.Elements.{All-head, All-tail}
+use Rattle.std.specs.Prelude.{All}
 use Rattle.am_clock.specs.Times.{Times}
-use Rattle.am_cli.specs.Marked.{Marked, Begins, HoldsMarked, IsPlainCapture, IsNotPlain}
+use Rattle.am_ip6.specs.Chains.{Lent}
+use Rattle.am_ip6.specs.Endings.{Ended, EndsSo}
+use Rattle.am_ip6.specs.Marks.{Seen, SeenInHopByHop, hop_by_hop}
+use Rattle.am_ip6.specs.Marks.Seen.{Marks, NoMark, CutOff}
+use Rattle.am_ip6.specs.Seen.{IsSeen}
+use Rattle.am_ip6.specs.declared.marks.Place.TheVariants.{HopByHop}
+use Rattle.am_ip6.proofs.Exists.{headers-unique, ending-unique}
+use Rattle.am_pcap.specs.Packets.{Packet, IsWhole, HoldsPackets, behind_first}
+use Rattle.am_pcap.specs.Heads.{judged}
+use Rattle.am_pcap.specs.Captures.{IsCapture}
+use Rattle.am_pcap.specs.declared.head.Head.{Head}
+use Rattle.am_pcap.specs.declared.frame.LinkKind.{LinkKind}
+use Rattle.am_pcap.specs.declared.frame.Frame.{Frame}
+use Rattle.am_pcap.specs.declared.frame.Frame.TheVariants.{Ip6, Other, Cut}
+use Rattle.am_pcap.specs.Frames.{IsFramed}
+use Rattle.am_pcap.proofs.Framed.{frame-unique}
+use Rattle.am_pcap.proofs.Splitting.{packets-append}
+use Rattle.am_cli.specs.CaptureFiles.{is_whole}
+use Rattle.am_cli.specs.Marked.{Marked, IsSeenIn, ShowsMark, AreMarked, CutsHeaders, marked_in}
 use Rattle.am_cli.specs.Tables.{counts_in, count_in}
-use Rattle.am_cli.specs.Counting.{one_in}
 
--- bits are numbers of their own
-bit-one : (a b : Bool) → bit a ≡ bit b → a ≡ b
-bit-one true true e = refl
-bit-one true false e = absurd (omega (arith, e))
-bit-one false true e = absurd (omega (arith, e))
-bit-one false false e = refl
+-- a header that stands in the chain stands among its headers
+among-all : (P : Lent → Type 0) (before : List Lent) (h : Lent) (behind : List Lent) → All P (before ++ h ∷ behind) → P h
+among-all P [] h behind all = All-head P h behind all
+among-all P (b ∷ bs) h behind all = among-all P bs h behind (All-tail P b (bs ++ h ∷ behind) all)
 
-bit-small : (a : Bool) → bit a ≤ 1
-bit-small true = omega arith
-bit-small false = omega arith
+-- a chain whose Hop-by-Hop header is cut off shows nothing else
+hop-cut : (packet : List ℕ) (whole : Bool) (hs : List Lent) (ended : Ended) (seen : Seen)
+    → SeenInHopByHop packet whole hs ended CutOff → SeenInHopByHop packet whole hs ended seen → seen ≡ CutOff
+hop-cut packet whole hs ended (Marks mark at) cut m =
+    let none = among-all (λ h. h.kind ≢ hop_by_hop) m.before m.header m.behind (subst (λ x. All (λ h. h.kind ≢ hop_by_hop) x) m.chain cut.0) in
+    absurd (none m.of_kind)
+hop-cut packet whole hs ended NoMark cut (_, inl h) =
+    let none = among-all (λ h. h.kind ≢ hop_by_hop) [] h.0 h.1 (subst (λ x. All (λ h. h.kind ≢ hop_by_hop) x) h.2 cut.0) in
+    absurd (none h.3)
+hop-cut packet whole hs ended NoMark cut (_, inr h) = absurd (h (cut.1, cut.2))
+hop-cut packet whole hs ended CutOff cut m = refl
 
--- numbers of 20 bits, 1 bit, 1 bit and 10 bits are settled by the word that they make
-fields-one :
-    (f a b r g c d q : ℕ) → f * 4096 + a * 2048 + b * 1024 + r ≡ g * 4096 + c * 2048 + d * 1024 + q
-    → r < 1024 → q < 1024 → a ≤ 1 → b ≤ 1 → c ≤ 1 → d ≤ 1 → (f ≡ g) × (a ≡ c) × (b ≡ d)
-fields-one f a b r g c d q e r_small q_small a_small b_small c_small d_small = (omega arith, omega arith, omega arith)
+seen-cut : (packet : List ℕ) (whole : Bool) (seen : Seen) → IsSeen packet whole HopByHop CutOff → IsSeen packet whole HopByHop seen → seen ≡ CutOff
+seen-cut packet whole seen c s =
+    let headers : s.headers ≡ c.headers = headers-unique packet s.headers c.headers s.chain c.chain in
+    let ends : EndsSo packet whole c.headers s.ended = subst (λ x. EndsSo packet whole x s.ended) headers s.ends in
+    let ended : s.ended ≡ c.ended = ending-unique packet whole c.headers s.ended c.ended ends c.ends in
+    hop-cut packet whole c.headers c.ended seen c.seen_in
+    (subst (λ x. SeenInHopByHop packet whole c.headers x seen) ended (subst (λ x. SeenInHopByHop packet whole x s.ended seen) headers s.seen_in))
 
-parts-one : (m k : Marking) → m.flow ≡ k.flow → m.loss ≡ k.loss → m.delay ≡ k.delay → m ≡ k
-parts-one m k e f g = grind arith
+frame-cut : (p : Packet) (f : Frame) (seen : Seen) → ShowsMark p f CutOff → ShowsMark p f seen → seen ≡ CutOff
+frame-cut p (Ip6 at) seen c s = seen-cut (drop at p.bytes) (is_whole p) seen c s
+frame-cut p Other seen c s = absurd (cc (c))
+frame-cut p Cut seen c s = s
 
--- bytes spell one mark
-pub spelled_once : (bytes : List ℕ) (m k : Marking) → Spells bytes m → Spells bytes k → m ≡ k
-spelled_once bytes m k s t =
-    let x : s.x ≡ t.x = cc (s.spelled, t.spelled) in
-    let y : s.y ≡ t.y = cc (s.spelled, t.spelled) in
-    let z : s.z ≡ t.z = cc (s.spelled, t.spelled) in
-    let w : s.w ≡ t.w = cc (s.spelled, t.spelled) in
-    let fields = fields-one m.flow (bit m.loss) (bit m.delay) s.reserved k.flow (bit k.loss) (bit k.delay) t.reserved
-    (omega (arith, s.bits, t.bits)) s.below t.below (bit-small _) (bit-small _) (bit-small _) (bit-small _) in
-    parts-one m k fields.0 (bit-one _ _ fields.1) (bit-one _ _ fields.2)
+-- a record whose headers are cut shows nothing else
+pub record-cut : (link : LinkKind) (p : Packet) (seen : Seen) → IsSeenIn link p CutOff → IsSeenIn link p seen → seen ≡ CutOff
+record-cut link p seen c s =
+    let same : s.frame ≡ c.frame = frame-unique link p.bytes (is_whole p) s.frame c.frame s.framed c.framed in
+    frame-cut p c.frame seen c.shows (subst (λ f. ShowsMark p f seen) same s.shows)
 
-marked-one : (m n : Marked) → m.number ≡ n.number → m.reading ≡ n.reading → m.mark ≡ n.mark → m ≡ n
-marked-one m n e f g = grind arith
+-- one more record
+pub AreMarked-more :
+    (h : Head) (number : ℕ) (ps : List Packet) (ms : List Marked) (p : Packet) (seen : Seen) (last : ℕ)
+    → AreMarked h number ps ms → IsSeenIn h.link p seen → seen ≢ CutOff → last ≡ number + length ps
+    → AreMarked h number (ps ++ p ∷ []) (ms ++ marked_in h last p seen)
+AreMarked-more h number [] ms p seen last a is uncut at =
+    let same : last ≡ number = omega (arith, at) in
+    (seen, [], is, uncut, refl, ap (λ x. x ++ marked_in h last p seen) a ∙ ap (λ n. marked_in h n p seen) same ∙ sym (append-nil (marked_in h number p seen)))
+AreMarked-more h number (q ∷ qs) ms p seen last a is uncut at =
+    let more = AreMarked-more h (number + 1) qs a.1 p seen last a.4 is uncut (omega (arith, at)) in (
+      a.0,
+      a.1 ++ marked_in h last p seen,
+      a.2,
+      a.3,
+      more,
+      ap (λ x. x ++ marked_in h last p seen) a.5 ∙ append_assoc (marked_in h number q a.0) a.1 (marked_in h last p seen),
+    )
 
--- bytes begin with one marked record of a number, and with one rest behind it
-pub Begins-one :
-    (bytes : List ℕ) (m n : Marked) (r s : List ℕ) → Begins bytes m r → Begins bytes n s → m.number ≡ n.number
-    → (m ≡ n) × (r ≡ s)
-Begins-one bytes m n r s b d e = (
-  marked-one m n e (cc (b.read_at, d.read_at)) (spelled_once _ m.mark n.mark b.marked.spelled d.marked.spelled),
-  cc (b.behind, d.behind),
-)
+marked-one : (h : Head) (number : ℕ) (p : Packet) (seen : Seen) → length (marked_in h number p seen) ≤ 1
+marked-one h number p (Marks mark at) = omega arith
+marked-one h number p NoMark = omega arith
+marked-one h number p CutOff = omega arith
 
--- no bytes begin with no record
-Begins-nil : (m : Marked) (rest : List ℕ) → Begins [] m rest → ⊥
-Begins-nil m rest b = omega (arith, b.whole.head)
+-- there are no more marked records than records
+pub marked-few : (h : Head) (number : ℕ) (ps : List Packet) (ms : List Marked) → AreMarked h number ps ms → length ms ≤ length ps
+marked-few h number [] ms a = omega (arith, ap length a)
+marked-few h number (p ∷ ps) ms a =
+    omega (arith, ap length a.5, length-append (marked_in h number p a.0) a.1, marked-one h number p a.0, marked-few h (number + 1) ps a.1 a.4)
 
--- one more record at the end
-pub HoldsMarked-more :
-    (number : ℕ) (bytes : List ℕ) (ms : List Marked) (mid : List ℕ) (m : Marked) (rest : List ℕ)
-    → HoldsMarked number bytes ms mid → Begins mid m rest → m.number ≡ number + length ms
-    → HoldsMarked number bytes (ms ++ m ∷ []) rest
-HoldsMarked-more number bytes [] mid m rest h b e =
-    (rest, subst (λ (bs : List ℕ). Begins bs m rest) (sym h) b, omega (arith, e), refl)
-HoldsMarked-more number bytes (k ∷ ks) mid m rest h b e =
-    (h.0, h.1, h.2, HoldsMarked-more (number + 1) h.0 ks mid m rest h.3 b (omega (arith, e)))
+-- counts of records that come behind others are added
+pub count_in-append : (t : Times) (flow shift : ℕ) (ms ns : List Marked) (block : ℕ) → count_in t flow shift (ms ++ ns) block ≡ count_in t flow shift ms block + count_in t flow shift ns block
+count_in-append t flow shift ms ns block = sum_by-append (λ (x : Marked). cond (counts_in t flow shift block x) 1 0) ms ns
 
--- a count goes up by what one more record adds
-pub count_in-more :
-    (t : Times) (flow shift : ℕ) (ms : List Marked) (m : Marked) (block : ℕ)
-    → count_in t flow shift (ms ++ m ∷ []) block ≡ count_in t flow shift ms block + one_in t flow shift block m
-count_in-more t flow shift ms m block =
-    let e = sum_by-append (λ (x : Marked). cond (counts_in t flow shift block x) 1 0) ms (m ∷ []) in grind (arith, e)
+-- a count is no more than there are records
+pub count_in-few :
+    (t : Times) (flow shift : ℕ) (h : Head) (ps : List Packet) (ms : List Marked) (block : ℕ) → AreMarked h 1 ps ms → count_in t flow shift ms block ≤ length ps
+count_in-few t flow shift h ps ms block a =
+    omega (arith, marked-few h 1 ps ms a, count_by-le-length (counts_in t flow shift block) ms)
 
--- two readings of the same bytes, neither of which can go on, have as many records
-stops-one :
-    (number : ℕ) (bytes : List ℕ) (ms ns : List Marked) (r s : List ℕ)
-    → HoldsMarked number bytes ms r → HoldsMarked number bytes ns s
-    → ((m : Marked) (behind : List ℕ) → Begins r m behind → ⊥)
-    → ((m : Marked) (behind : List ℕ) → Begins s m behind → ⊥)
-    → length ms ≡ length ns
-stops-one number bytes [] [] r s h g no_r no_s = refl
-stops-one number bytes [] (n ∷ ns) r s h g no_r no_s =
-    absurd (no_r n g.0 (subst (λ (bs : List ℕ). Begins bs n g.0) h g.1))
-stops-one number bytes (m ∷ ms) [] r s h g no_r no_s =
-    absurd (no_s m h.0 (subst (λ (bs : List ℕ). Begins bs m h.0) g h.1))
-stops-one number bytes (m ∷ ms) (n ∷ ns) r s h g no_r no_s =
-    let same = Begins-one bytes m n h.0 g.0 h.1 g.1 (cc (h.2, g.2)) in
-    let more : HoldsMarked (number + 1) h.0 ns s = subst (λ (bs : List ℕ). HoldsMarked (number + 1) bs ns s) (sym same.1) g.3 in
-    let e = stops-one (number + 1) h.0 ms ns r s h.3 more no_r no_s in
-    omega (arith, e)
+-- a record among those of a capture whose records aren't cut isn't cut
+uncut-at :
+    (h : Head) (number : ℕ) (bytes : List ℕ) (ps : List Packet) (ms : List Marked) (before : List Packet) (p : Packet) (rest : List ℕ)
+    → HoldsPackets h.form.big bytes ps [] → AreMarked h number ps ms → HoldsPackets h.form.big bytes (before ++ p ∷ []) rest
+    → IsSeenIn h.link p CutOff → ⊥
+uncut-at h number bytes [] ms [] p rest a m b cut = let w : IsWhole h.form.big bytes = b.0 in omega (arith, w.head, ap length a)
+uncut-at h number bytes [] ms (q ∷ qs) p rest a m b cut = let w : IsWhole h.form.big bytes = b.0 in omega (arith, w.head, ap length a)
+uncut-at h number bytes (x ∷ xs) ms [] p rest a m b cut =
+    let same : p ≡ x = b.1 ∙ sym a.1 in
+    m.3 (record-cut h.link x m.0 (subst (λ y. IsSeenIn h.link y CutOff) same cut) m.2)
+uncut-at h number bytes (x ∷ xs) ms (q ∷ qs) p rest a m b cut =
+    uncut-at h (number + 1) (behind_first h.form.big bytes) xs m.1 qs p rest a.2 m.4 b.2 cut
 
--- a reading that comes to the end leaves none that stops before it
-ends-one :
-    (number : ℕ) (bytes : List ℕ) (ms ns : List Marked) (s : List ℕ)
-    → HoldsMarked number bytes ms [] → HoldsMarked number bytes ns s → s ≢ []
-    → ((m : Marked) (behind : List ℕ) → Begins s m behind → ⊥) → ⊥
-ends-one number bytes [] [] s h g more no_s = more (cc (h, g))
-ends-one number bytes [] (n ∷ ns) s h g more no_s =
-    Begins-nil n g.0 (subst (λ (bs : List ℕ). Begins bs n g.0) h g.1)
-ends-one number bytes (m ∷ ms) [] s h g more no_s = no_s m h.0 (subst (λ (bs : List ℕ). Begins bs m h.0) g h.1)
-ends-one number bytes (m ∷ ms) (n ∷ ns) s h g more no_s =
-    let same = Begins-one bytes m n h.0 g.0 h.1 g.1 (cc (h.2, g.2)) in
-    let again : HoldsMarked (number + 1) h.0 ns s = subst (λ (bs : List ℕ). HoldsMarked (number + 1) bs ns s) (sym same.1) g.3 in
-    ends-one (number + 1) h.0 ms ns s h.3 again more no_s
+-- a capture whose records aren't cut has none whose headers are
+pub not-cut_headers : (bytes : List ℕ) (h : Head) (ps : List Packet) (ms : List Marked) (number : ℕ) → IsCapture bytes h ps → AreMarked h 1 ps ms → CutsHeaders bytes number → ⊥
+not-cut_headers bytes h ps ms number c m x =
+    let a : take 24 bytes ≡ take 24 x.front = ap (λ y. take 24 y) x.split ∙ take-append-le 24 x.front x.rest x.begins.whole in
+    let d : drop 24 bytes ≡ drop 24 x.front ++ x.rest = ap (λ y. drop 24 y) x.split ∙ drop-append-le 24 x.front x.rest x.begins.whole in
+    let heads : Ok x.head ≡ Ok h = sym x.begins.head ∙ ap judged (sym a) ∙ c.head in
+    let same : x.head ≡ h = cc (heads) in
+    let cut : IsSeenIn h.link x.packet CutOff = subst (λ (y : Head). IsSeenIn y.link x.packet CutOff) same x.cut in
+    let records : HoldsPackets h.form.big (drop 24 x.front) (x.before ++ x.packet ∷ []) x.behind =
+    subst (λ (y : Head). HoldsPackets y.form.big (drop 24 x.front) (x.before ++ x.packet ∷ []) x.behind) same x.begins.records in
+    let all : HoldsPackets h.form.big (drop 24 bytes) (x.before ++ x.packet ∷ []) (x.behind ++ x.rest) =
+    subst (λ y. HoldsPackets h.form.big y (x.before ++ x.packet ∷ []) (x.behind ++ x.rest)) (sym d)
+    (packets-append h.form.big (drop 24 x.front) (x.before ++ x.packet ∷ []) x.behind x.rest records) in
+    uncut-at h 1 (drop 24 bytes) ps ms x.before x.packet (x.behind ++ x.rest) c.records m all cut
 
--- one record is what is wrong with a capture
-pub not_plain_once : (bytes : List ℕ) (j k : ℕ) → IsNotPlain bytes j → IsNotPlain bytes k → j ≡ k
-not_plain_once bytes j k (inl p) (inl q) = cc (p.0, q.0)
-not_plain_once bytes j k (inl p) (inr q) = absurd (p.1 q.head)
-not_plain_once bytes j k (inr p) (inl q) = absurd (q.1 p.head)
-not_plain_once bytes j k (inr p) (inr q) =
-    let e = stops-one 1 (drop 24 bytes) p.before q.before p.rest q.rest p.records q.records p.no_next q.no_next in
-    omega (arith, e, p.counted, q.counted)
-
--- a plain capture has nothing wrong
-pub not_both : (bytes : List ℕ) (ms : List Marked) (k : ℕ) → IsPlainCapture bytes ms → IsNotPlain bytes k → ⊥
-not_both bytes ms k p (inl q) = q.1 p.head
-not_both bytes ms k p (inr q) = ends-one 1 (drop 24 bytes) ms q.before q.rest p.records q.records q.more q.no_next
+-- what is found in a packet is what its record shows
+pub seen-of_packet :
+    (link : LinkKind) (p : Packet) (at : ℕ) (whole : Bool) (packet : List ℕ) (seen : Seen)
+    → whole ≡ is_whole p → packet ≡ drop at p.bytes → IsFramed link p.bytes whole (Ip6 at) → IsSeen packet whole HopByHop seen
+    → IsSeenIn link p seen
+seen-of_packet link p at whole packet seen same rest says found = record {
+  frame = Ip6 at;
+  framed = subst (λ w. IsFramed link p.bytes w (Ip6 at)) same says;
+  shows = subst (λ w. IsSeen (drop at p.bytes) w HopByHop seen) same (subst (λ x. IsSeen x whole HopByHop seen) rest found);
+}

@@ -1,6 +1,8 @@
 pub mod SixWords
 pub mod TableLemmas
+pub mod ReadLemmas
 pub mod CaptureLemmas
+pub mod FileLemmas
 pub mod RunLemmas
 pub mod LinkLemmas
 pub mod ShowLemmas

@@ -11,22 +11,13 @@ use Rattle.am_cli.specs.Runs.{IsStopOf}
 use Rattle.am_cli.specs.Stops.{Stop}
 use Rattle.am_cli.specs.Stops.Stop.{NoCommand, Refused, ReadFault, WriteFault, NoMemory}
 use Rattle.am_cli.specs.Tables.{Row, IsTable, count_in, table_text}
+use Rattle.am_cli.proofs.FileLemmas.{told_both}
 
 -- a fact of told files that a call kept
 pub on_kept : (before after : Option Told) (P : List File → Type 0) → KeepsFiles before after → OnTold after (λ t. P t.files) → OnTold before (λ t. P t.files)
 on_kept None after P kept h = tt
 on_kept (Some t) None P kept h = absurd (cc kept)
 on_kept (Some t) (Some u) P kept h = let same : u.files ≡ t.files = cc kept in subst P same h
-
--- a fact from another of what is told
-pub told_more : {P Q : Told → Type 0} (told : Option Told) → ((t : Told) → P t → Q t) → OnTold told P → OnTold told Q
-told_more None f h = tt
-told_more (Some t) f h = f t h
-
--- and from two
-pub told_both : {P Q R : Told → Type 0} (told : Option Told) → ((t : Told) → P t → Q t → R t) → OnTold told P → OnTold told Q → OnTold told R
-told_both None f p q = tt
-told_both (Some t) f p q = f t p q
 
 -- the second file stops `link`, after the first was taken
 pub second_stops :

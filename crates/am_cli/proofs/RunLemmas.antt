@@ -4,14 +4,13 @@ use Rattle.std.specs.Prelude.{◌⊎◌, Result, Ok, Err, IfErr}
 use Rattle.am_base.specs.Shelves.{File, Told, OnTold}
 use Rattle.am_cli.specs.Commands.{Link, Command, Says, SaysLink, IsNoCommand}
 use Rattle.am_cli.specs.Commands.Command.{Linking, Showing}
-use Rattle.am_cli.specs.Link.{IsTaken, IsRefused, LinkRefusal, IsLinkProduct}
-use Rattle.am_cli.specs.Marked.{Marked, IsNotPlain}
+use Rattle.am_cli.specs.Link.{LinkRefusal, IsLinkProduct}
 use Rattle.am_cli.specs.Runs.{IsProduct, IsFirstRefusal, IsStopOf, IsBorneOut, IsToldAs, Leaves, LeavesOf, Prints, Refuses, Completes}
 use Rattle.am_cli.specs.Stops.{Refusal, Stop, refusal_status, stop_status}
-use Rattle.am_cli.specs.Stops.Refusal.{Missing, TooLong, NotPlain}
+use Rattle.am_cli.specs.Stops.Refusal.{Missing, TooLong, BadCapture, HeadersCut}
 use Rattle.am_cli.specs.Stops.Stop.{NoCommand, Refused, ReadFault, WriteFault, NoMemory}
-use Rattle.am_cli.proofs.CaptureLemmas.{not_plain_once, not_both}
-use Rattle.am_cli.proofs.ShowLemmas.{one_file, show_refused_once, show_not_refused, show_named_leaves, show_none_leaves}
+use Rattle.am_cli.proofs.FileLemmas.{not_refused, refused_alike}
+use Rattle.am_cli.proofs.ShowLemmas.{show_refused_alike, show_not_refused, show_named_leaves}
 
 -- the words of `link` by their parts
 abbrev made : ℕ → ℕ → ℕ → List ℕ → List ℕ → Link
@@ -38,46 +37,17 @@ says_once words (Showing l) (Showing k) s t =
     let same : l.file ≡ k.file = cc (sym s.spelled ∙ t.spelled) in
     ap (λ f. Showing (record { file = f })) same
 
--- a file is refused for one reason
-refused_once : (files : List File) (name : List ℕ) (r s : Refusal) → IsRefused files name r → IsRefused files name s → r ≡ s
-refused_once files name (Missing a) (Missing b) p q = ap Missing (p.0 ∙ sym q.0)
-refused_once files name (Missing a) (TooLong b) p q = absurd (cc (p.1, q.1.1))
-refused_once files name (Missing a) (NotPlain b k) p q = absurd (cc (p.1, q.1.1))
-refused_once files name (TooLong a) (Missing b) p q = absurd (cc (p.1.1, q.1))
-refused_once files name (TooLong a) (TooLong b) p q = ap TooLong (p.0 ∙ sym q.0)
-refused_once files name (TooLong a) (NotPlain b k) p q =
-    let e : p.1.0 ≡ q.1.0 = one_file files name p.1.0 q.1.0 p.1.1 q.1.1 in
-    absurd (omega (arith, p.1.2, q.1.2, ap length e))
-refused_once files name (NotPlain a k) (Missing b) p q = absurd (cc (p.1.1, q.1))
-refused_once files name (NotPlain a k) (TooLong b) p q =
-    let e : p.1.0 ≡ q.1.0 = one_file files name p.1.0 q.1.0 p.1.1 q.1.1 in
-    absurd (omega (arith, p.1.2, q.1.2, ap length e))
-refused_once files name (NotPlain a j) (NotPlain b k) p q =
-    let e : q.1.0 ≡ p.1.0 = one_file files name q.1.0 p.1.0 q.1.1 p.1.1 in
-    let same : j ≡ k = not_plain_once p.1.0 j k p.1.3 (subst (λ bytes. IsNotPlain bytes k) e q.1.3) in
-    ap (λ n. NotPlain n j) (p.0 ∙ sym q.0) ∙ ap (λ n. NotPlain b n) same
-
--- a file that is taken is not refused
-not_refused : (files : List File) (name : List ℕ) (ms : List Marked) (r : Refusal) → IsTaken files name ms → IsRefused files name r → ⊥
-not_refused files name ms (Missing a) t q = cc (t.there, q.1)
-not_refused files name ms (TooLong a) t q =
-    let e : t.bytes ≡ q.1.0 = one_file files name t.bytes q.1.0 t.there q.1.1 in
-    omega (arith, t.short, q.1.2, ap length e)
-not_refused files name ms (NotPlain a k) t q =
-    let e : q.1.0 ≡ t.bytes = one_file files name q.1.0 t.bytes q.1.1 t.there in
-    not_both t.bytes ms k t.plain (subst (λ bytes. IsNotPlain bytes k) e q.1.3)
-
--- `link` has one first refusal
-link_refused_once : (files : List File) (l : Link) (r s : Refusal) → LinkRefusal files l r → LinkRefusal files l s → r ≡ s
-link_refused_once files l r s p q =
+-- the first refusals of `link` have one status
+link_refused_alike : (files : List File) (l : Link) (r s : Refusal) → LinkRefusal files l r → LinkRefusal files l s → refusal_status r ≡ refusal_status s
+link_refused_alike files l r s p q =
     elim p [
       | inl a ↦ elim q [
-        | inl b ↦ refused_once files l.up r s a b
+        | inl b ↦ refused_alike files l.up r s a b
         | inr b ↦ absurd (not_refused files l.up b.0 r b.1 a)
       ]
       | inr a ↦ elim q [
         | inl b ↦ absurd (not_refused files l.up a.0 s a.1 b)
-        | inr b ↦ refused_once files l.down r s a.2 b.2
+        | inr b ↦ refused_alike files l.down r s a.2 b.2
       ]
     ]
 
@@ -89,9 +59,9 @@ link_not_refused files l text r p q =
       | inr a ↦ not_refused files l.down p.downs r p.down a.2
     ]
 
-pub first_once : (files : List File) (c : Command) (r s : Refusal) → IsFirstRefusal files c r → IsFirstRefusal files c s → r ≡ s
-first_once files (Linking l) r s = link_refused_once files l r s
-first_once files (Showing s) r q = show_refused_once files s r q
+pub first_alike : (files : List File) (c : Command) (r s : Refusal) → IsFirstRefusal files c r → IsFirstRefusal files c s → refusal_status r ≡ refusal_status s
+first_alike files (Linking l) r s = link_refused_alike files l r s
+first_alike files (Showing s) r q = show_refused_alike files s r q
 
 pub product_not_refused : (files : List File) (c : Command) (text : List ℕ) (r : Refusal) → IsProduct files c text → IsFirstRefusal files c r → ⊥
 product_not_refused files (Linking l) text r = link_not_refused files l text r
@@ -127,7 +97,7 @@ named_leaves told (Showing s) r printed h = show_named_leaves told s r printed h
 
 fault_leaves : (told : Option Told) (c : Command) (name printed : List ℕ) → Leaves told c (ReadFault name) printed → Leaves told c NoMemory printed
 fault_leaves told (Linking l) name printed h = h
-fault_leaves told (Showing s) name printed h = show_none_leaves told s printed h
+fault_leaves told (Showing s) name printed h = h
 
 -- and so of what is told of it
 pub told_leaves : (words : List (List ℕ)) (told : Option Told) (stop s : Stop) (printed : List ℕ) → IsToldAs stop s → LeavesOf words told stop printed → LeavesOf words told s printed
@@ -152,7 +122,8 @@ pub two_exactly : (words : List (List ℕ)) (told : Option Told) (s : Stop) (sta
 two_exactly words told NoCommand status e h = (λ _. h, λ _. sym e)
 two_exactly words told (Refused (Missing name)) status e h = (λ two. absurd (omega arith), λ unsaid. absurd (unsaid h.0 h.1))
 two_exactly words told (Refused (TooLong name)) status e h = (λ two. absurd (omega arith), λ unsaid. absurd (unsaid h.0 h.1))
-two_exactly words told (Refused (NotPlain name number)) status e h = (λ two. absurd (omega arith), λ unsaid. absurd (unsaid h.0 h.1))
+two_exactly words told (Refused (BadCapture name error)) status e h = (λ two. absurd (omega arith), λ unsaid. absurd (unsaid h.0 h.1))
+two_exactly words told (Refused (HeadersCut name number)) status e h = (λ two. absurd (omega arith), λ unsaid. absurd (unsaid h.0 h.1))
 two_exactly words told (ReadFault name) status e h = (λ two. absurd (omega arith), λ unsaid. absurd (unsaid h.0 h.1))
 two_exactly words told WriteFault status e h = (λ two. absurd (omega arith), λ unsaid. absurd (unsaid h.0 h.1))
 two_exactly words told NoMemory status e h = (λ two. absurd (omega arith), λ unsaid. absurd (unsaid h.0 h.1))
@@ -162,8 +133,8 @@ refused_stop : (words : List (List ℕ)) (t : Told) (s : Stop) (status : ℕ) �
 refused_stop words t NoCommand status e h = λ c r says first. absurd (h c says)
 refused_stop words t (Refused q) status e h = λ c r says first.
     let same : h.0 ≡ c = says_once words h.0 c h.1 says in
-    let one : q ≡ r = first_once t.files c q r (subst (λ x. IsFirstRefusal t.files x q) same h.2.1) first in
-    inl (sym e ∙ ap refusal_status one)
+    let one : refusal_status q ≡ refusal_status r = first_alike t.files c q r (subst (λ x. IsFirstRefusal t.files x q) same h.2.1) first in
+    inl (sym e ∙ one)
 refused_stop words t (ReadFault name) status e h = λ c r says first. inr (inl (sym e))
 refused_stop words t WriteFault status e h = λ c r says first. inr (inr (inl (sym e)))
 refused_stop words t NoMemory status e h = λ c r says first. inr (inr (inr (sym e)))

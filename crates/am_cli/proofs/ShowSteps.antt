@@ -3,39 +3,31 @@ use Rattle.std.proofs.Common.{◌≡◌, ℕ, ◌+◌, ◌≤◌, Bool, List, []
 use Rattle.std.proofs.Math.Seq.{take-append-add}
 use Rattle.std.proofs.lemmas.List.{append-nil}
 use Rattle.std.specs.Io.KnownBytes.{append_known}
-use Rattle.am_pcap.specs.Packets.{Packet, IsWhole, HoldsPackets, first_packet, behind_first}
+use Rattle.am_pcap.specs.Packets.{Packet}
 use Rattle.std.specs.Prelude.{true, false, nat_le, IsTrue}
 use Rattle.std.proofs.lemmas.Bool.Decides.{leb_tells}
 use Rattle.std.proofs.lemmas.Bool.{false≢true}
-use Rattle.am_pcap.specs.Frames.{VersionSays}
+use Rattle.am_pcap.specs.Frames.{IsFramed}
+use Rattle.am_pcap.specs.declared.head.Head.{Head}
+use Rattle.am_pcap.specs.declared.frame.LinkKind.{LinkKind}
 use Rattle.am_pcap.specs.declared.frame.Frame.TheVariants.{Ip6}
 use Rattle.am_cli.specs.Showing.{AddsFrame, AddsPacket}
-use Rattle.am_cli.specs.Lines.{IsLine, AreLines, IsPacketText, is_whole}
-
--- whole records, and one more behind them
-pub HoldsPackets-more :
-    (big : Bool) (bytes : List ℕ) (ps : List Packet) (rest : List ℕ)
-    → HoldsPackets big bytes ps rest
-    → IsWhole big rest
-    → HoldsPackets big bytes (ps ++ first_packet big rest ∷ []) (behind_first big rest)
-HoldsPackets-more big bytes [] rest h w =
-    let P : List ℕ → Type 0 = λ b. IsWhole big b in
-    (subst P (sym h) w, ap (λ b. first_packet big b) (sym h), ap (λ b. behind_first big b) h)
-HoldsPackets-more big bytes (p ∷ ps) rest h w = (h.0, h.1, HoldsPackets-more big (behind_first big bytes) ps rest h.2 w)
+use Rattle.am_cli.specs.CaptureFiles.{is_whole}
+use Rattle.am_cli.specs.Lines.{IsLine, AreLines, IsPacketText}
 
 -- the lines of records, and one more behind them
 pub AreLines-more :
-    (number : ℕ) (ps : List Packet) (text : List ℕ) (last : ℕ) (p : Packet) (line : List ℕ)
-    → AreLines number ps text
+    (k : Head) (number : ℕ) (ps : List Packet) (text : List ℕ) (last : ℕ) (p : Packet) (line : List ℕ)
+    → AreLines k number ps text
     → last ≡ number + length ps
-    → IsLine last p line
-    → AreLines number (ps ++ p ∷ []) (text ++ line)
-AreLines-more number [] text last p line h is l =
+    → IsLine k last p line
+    → AreLines k number (ps ++ p ∷ []) (text ++ line)
+AreLines-more k number [] text last p line h is l =
     let same : last ≡ number = omega arith in
-    (line, [], subst (λ n. IsLine n p line) same l, refl, ap (λ t. t ++ line) h ∙ sym (append-nil line))
-AreLines-more number (q ∷ qs) text last p line h is l =
+    (line, [], subst (λ n. IsLine k n p line) same l, refl, ap (λ t. t ++ line) h ∙ sym (append-nil line))
+AreLines-more k number (q ∷ qs) text last p line h is l =
     let next : last ≡ number + 1 + length qs = omega arith in
-    (h.0, h.1 ++ line, h.2, AreLines-more (number + 1) qs h.1 last p line h.3 next l, ap (λ t. t ++ line) h.4 ∙ append_assoc h.0 h.1 line)
+    (h.0, h.1 ++ line, h.2, AreLines-more k (number + 1) qs h.1 last p line h.3 next l, ap (λ t. t ++ line) h.4 ∙ append_assoc h.0 h.1 line)
 
 -- two pieces in a row are one
 pub appended_twice : (w v u : Option (List ℕ)) (a b : List ℕ) → v ≡ append_known w a → u ≡ append_known v b → u ≡ append_known w (a ++ b)
@@ -90,30 +82,27 @@ whole_is false m n h = elim (leb_tells m n) [ inl t ↦ absurd (false≢true (h.
 
 -- a line grew by what a record holds, where it grew by its packet
 pub frame_of_packet :
-    (p : Packet) (at : ℕ) (whole : Bool) (packet old new : List ℕ)
+    (link : LinkKind) (p : Packet) (at : ℕ) (whole : Bool) (packet old new : List ℕ)
     → whole ≡ is_whole p
     → packet ≡ drop at p.bytes
-    → VersionSays p.bytes whole (Ip6 at)
+    → IsFramed link p.bytes whole (Ip6 at)
     → AddsPacket packet whole old new
-    → AddsFrame p old new
-frame_of_packet p at whole packet old new same rest says added = record {
+    → AddsFrame link p old new
+frame_of_packet link p at whole packet old new same rest says added = record {
   frame = Ip6 at;
   held = added.held;
-  framed = subst (λ w. VersionSays p.bytes w (Ip6 at)) same says;
+  framed = subst (λ w. IsFramed link p.bytes w (Ip6 at)) same says;
   text = subst (λ w. IsPacketText (drop at p.bytes) w added.held) same (subst (λ x. IsPacketText x whole added.held) rest added.text);
   added = added.added;
 }
 
 -- the lines of the records so far, and the line that was made of the next
 pub lines_more :
-    (ps : List Packet) (text : List ℕ) (number last : ℕ) (p q : Packet) (line bytes : List ℕ)
-    → AreLines 1 ps text
+    (k : Head) (ps : List Packet) (text : List ℕ) (number : ℕ) (p : Packet) (line bytes : List ℕ)
+    → AreLines k 1 ps text
     → number ≡ length ps + 1
-    → last ≡ number
-    → p ≡ q
     → bytes ≡ line
-    → IsLine last p line
-    → AreLines 1 (ps ++ q ∷ []) (text ++ bytes)
-lines_more ps text number last p q line bytes lines counted is same made l =
-    AreLines-more 1 ps text last q bytes lines (omega arith)
-    (subst (λ x. IsLine last x bytes) same (subst (λ x. IsLine last p x) (sym made) l))
+    → IsLine k number p line
+    → AreLines k 1 (ps ++ p ∷ []) (text ++ bytes)
+lines_more k ps text number p line bytes lines counted made l =
+    AreLines-more k 1 ps text number p bytes lines (omega arith) (subst (λ x. IsLine k number p x) (sym made) l)

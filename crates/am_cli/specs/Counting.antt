@@ -1,12 +1,16 @@
--- What counting a plain capture leaves in a table, and why a capture could not be counted.
-use Rattle.std.specs.Prelude.{◌≡◌, ℕ, List, ⊤, if◌then◌else◌}
+-- What counting a record leaves in a table.
+use Rattle.std.specs.Prelude.{◌≡◌, ◌≢◌, ℕ, ◌+◌, ⊤, if◌then◌else◌}
 use Rattle.am_clock.specs.Times.{Times}
-use Rattle.am_cli.specs.Marked.{Marked, IsPlainCapture, IsNotPlain}
+use Rattle.am_ip6.specs.Marks.{Seen}
+use Rattle.am_ip6.specs.Marks.Seen.{CutOff}
+use Rattle.am_pcap.specs.Packets.{Packet}
+use Rattle.am_pcap.specs.declared.head.Head.{Head}
+use Rattle.am_cli.specs.Marked.{Marked, IsSeenIn, marked_in}
 use Rattle.am_cli.specs.Tables.{counts_in, count_in}
-use Rattle.am_cli.specs.Tallies.{tally, other}
-use Rattle.am_cli.specs.declared.capture.CountFault.{CountFault}
-use Rattle.am_cli.specs.declared.capture.CountFault.TheVariants.{NotPlain, Memory}
+use Rattle.am_cli.specs.Tallies.{tally, other, IsCounted}
 use Rattle.am_cli.specs.declared.capture.MarkedRecord.{MarkedRecord}
+use Rattle.am_cli.specs.declared.capture.RecordFault.{RecordFault}
+use Rattle.am_cli.specs.declared.capture.RecordFault.TheVariants.{Cut, Memory}
 use Rattle.am_cli.specs.declared.table.Side.{Side}
 use Rattle.am_cli.specs.declared.table.Table.{Table}
 
@@ -18,18 +22,16 @@ marked_shown r = record { number = r.number; reading = r.reading; mark = r.mark 
 abbrev pub one_in : Times → ℕ → ℕ → ℕ → Marked → ℕ
 one_in t flow shift block m = if counts_in t flow shift block m then 1 else 0
 
--- the bytes are a plain capture, and its records of the flow are what a table has on one side after; the other side is as it was
-pub record Counted (bytes : List ℕ) (t : Times) (flow shift : ℕ) (side : Side) (before after : Table) : Type 0 where
-  -- the capture's records, in their order
-  pub records : List Marked
-  -- they are all that the capture has
-  pub plain : IsPlainCapture bytes records
-  -- of each block, the side has as many packets as there are records that count in it
-  pub here : (block : ℕ) → tally after side block ≡ count_in t flow shift records block
-  -- of each block, the other side has as many packets as before
+-- a record was counted on one side, where it is marked: its headers aren't cut, and the other side is as it was
+pub record CountsRecord (h : Head) (number : ℕ) (p : Packet) (t : Times) (flow shift : ℕ) (side : Side) (before after : Table) : Type 0 where
+  pub seen : Seen
+  pub is : IsSeenIn h.link p seen
+  pub not_cut : seen ≢ CutOff
+  pub here : (block : ℕ) → tally after side block ≡ tally before side block + count_in t flow shift (marked_in h number p seen) block
   pub there : (block : ℕ) → tally after (other side) block ≡ tally before (other side) block
+  pub counted : IsCounted after
 
--- a fault is borne out by the capture's bytes; of memory they say nothing
-abbrev pub Faulted : List ℕ → CountFault → Type 0
-Faulted bytes (NotPlain number) = IsNotPlain bytes number
-Faulted bytes Memory = ⊤
+-- why a record could not be counted: its headers are cut; of memory the record says nothing
+abbrev pub NotCounted : Head → Packet → RecordFault → Type 0
+NotCounted h p Cut = IsSeenIn h.link p CutOff
+NotCounted h p Memory = ⊤

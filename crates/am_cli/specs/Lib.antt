@@ -1,4 +1,5 @@
 pub mod Commands
+pub mod CaptureFiles
 pub mod Marked
 pub mod Tables
 pub mod Stops

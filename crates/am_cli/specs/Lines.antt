@@ -1,5 +1,5 @@
 -- The line that `show` prints of a record.
-use Rattle.std.specs.Prelude.{◌≡◌, ℕ, ◌+◌, Bool, false, nat_le, List, [], ◌∷◌, ◌++◌, length, drop, flat_map, codes, decimal}
+use Rattle.std.specs.Prelude.{◌≡◌, ℕ, ◌+◌, Bool, List, [], ◌∷◌, ◌++◌, length, drop, flat_map, codes, decimal}
 use Rattle.am_opts.specs.Marking.{bit}
 use Rattle.am_ip6.specs.Chains.{Lent, HasHeaders}
 use Rattle.am_ip6.specs.Endings.{Ended, EndsSo}
@@ -10,16 +10,13 @@ use Rattle.am_pcap.specs.Packets.{Packet, reading_of}
 use Rattle.am_pcap.specs.Frames.{IsFramed}
 use Rattle.am_pcap.specs.declared.frame.Frame.{Frame}
 use Rattle.am_pcap.specs.declared.frame.Frame.TheVariants.{Ip6, Other, Cut}
-use Rattle.am_pcap.specs.declared.frame.LinkKind.TheVariants.{RawIp}
-
--- all bytes of a packet were captured
-abbrev pub is_whole : Packet → Bool
-is_whole p = nat_le p.original (length p.bytes)
+use Rattle.am_pcap.specs.declared.head.Head.{Head}
+use Rattle.am_cli.specs.CaptureFiles.{is_whole}
 
 -- what stands first: the record's number, its reading, how many bytes were captured and how many the packet had
-abbrev pub record_text : ℕ → Packet → List ℕ
-record_text number p =
-    decimal number ++ codes " " ++ decimal (reading_of false p) ++ codes " " ++ decimal (length p.bytes) ++ codes " " ++ decimal p.original ++ codes " "
+abbrev pub record_text : Bool → ℕ → Packet → List ℕ
+record_text nano number p =
+    decimal number ++ codes " " ++ decimal (reading_of nano p) ++ codes " " ++ decimal (length p.bytes) ++ codes " " ++ decimal p.original ++ codes " "
 
 -- a header: its number and how many bytes it has
 abbrev pub header_text : Lent → List ℕ
@@ -58,15 +55,15 @@ IsFrameText p (Ip6 at) text = IsPacketText (drop at p.bytes) (is_whole p) text
 IsFrameText p Other text = text ≡ codes "other"
 IsFrameText p Cut text = text ≡ codes "cut"
 
--- a record of raw IP is shown by this line
-pub record IsLine (number : ℕ) (p : Packet) (line : List ℕ) : Type 0 where
+-- a record of a capture with this file header is shown by this line
+pub record IsLine (h : Head) (number : ℕ) (p : Packet) (line : List ℕ) : Type 0 where
   pub frame : Frame
   pub held : List ℕ
-  pub framed : IsFramed RawIp p.bytes (is_whole p) frame
+  pub framed : IsFramed h.link p.bytes (is_whole p) frame
   pub text : IsFrameText p frame held
-  pub shown : line ≡ record_text number p ++ held ++ codes "\n"
+  pub shown : line ≡ record_text h.form.nano number p ++ held ++ codes "\n"
 
 -- records, numbered from here, are shown by these lines
-abbrev pub AreLines : ℕ → List Packet → List ℕ → Type 0
-AreLines number [] text = text ≡ []
-AreLines number (p ∷ ps) text = (line : List ℕ) × (rest : List ℕ) × IsLine number p line × AreLines (number + 1) ps rest × (text ≡ line ++ rest)
+abbrev pub AreLines : Head → ℕ → List Packet → List ℕ → Type 0
+AreLines h number [] text = text ≡ []
+AreLines h number (p ∷ ps) text = (line : List ℕ) × (rest : List ℕ) × IsLine h number p line × AreLines h (number + 1) ps rest × (text ≡ line ++ rest)

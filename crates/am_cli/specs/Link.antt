@@ -1,36 +1,50 @@
 -- What `link` prints, and which refusal of its files comes first.
-use Rattle.std.specs.Prelude.{◌≡◌, ◌⊎◌, ℕ, ◌<◌, ◌≤◌, List, length, Option, Some, None, ⊤}
+use Rattle.std.specs.Prelude.{◌≡◌, ◌⊎◌, ℕ, ◌<◌, ◌≤◌, List, length, take, Option, Some, None, Ok, ⊤}
 use Rattle.am_base.specs.Shelves.{File, Told, OnTold, file_named}
 use Rattle.am_clock.specs.Times.{Times}
 use Rattle.am_cli.specs.Commands.{Link}
-use Rattle.am_cli.specs.Marked.{Marked, IsPlainCapture, IsNotPlain}
+use Rattle.am_pcap.specs.Packets.{Packet}
+use Rattle.am_pcap.specs.Heads.{judged}
+use Rattle.am_pcap.specs.Captures.{IsCapture}
+use Rattle.am_pcap.specs.Readings.{most_read}
+use Rattle.am_pcap.specs.declared.refusal.CapError.{CapError}
+use Rattle.am_pcap.specs.declared.head.Head.{Head}
+use Rattle.am_cli.specs.CaptureFiles.{IsRefusedIn}
+use Rattle.am_cli.specs.Marked.{Marked, AreMarked, CutsHeaders}
 use Rattle.am_cli.specs.Tables.{Row, IsTable, count_in, table_text}
 use Rattle.am_cli.specs.Stops.{Refusal, Stop, refused_name}
 use Rattle.am_cli.specs.Stops.Stop.{NoCommand, Refused, ReadFault, WriteFault, NoMemory}
-use Rattle.am_cli.specs.Stops.Refusal.{Missing, TooLong, NotPlain}
-
--- the most bytes that a capture may have
-abbrev pub most_bytes : ℕ
-most_bytes = 16777216
+use Rattle.am_cli.specs.Stops.Refusal.{Missing, TooLong, BadCapture, HeadersCut}
 
 -- blocks of this length, for the clocks of two points that agree and a delay that is known
 abbrev pub times_of : Link → Times
 times_of l = record { block = l.block; skew = 0; delay_min = l.shift; delay_max = l.shift }
 
--- the file of this name is a plain capture, not too long, with these marked records
+-- the file of this name is a capture of at most 2^40 bytes, no record of it has headers that are cut, and these are its marked records
 pub record IsTaken (files : List File) (name : List ℕ) (ms : List Marked) : Type 0 where
   pub bytes : List ℕ
   pub there : file_named files name ≡ Some bytes
-  pub short : length bytes ≤ most_bytes
-  pub plain : IsPlainCapture bytes ms
+  pub short : length bytes ≤ most_read
+  pub head : Head
+  pub packets : List Packet
+  pub capture : IsCapture bytes head packets
+  pub marked : AreMarked head 1 packets ms
+
+-- the bytes are refused so, and no record before has headers that are cut
+pub record IsRefusedFirst (bytes : List ℕ) (e : CapError) : Type 0 where
+  pub packets : List Packet
+  pub refused : IsRefusedIn bytes e packets
+  pub uncut : (h : Head) → judged (take 24 bytes) ≡ Ok h → (ms : List Marked) × AreMarked h 1 packets ms
 
 -- the file of this name is refused so
 abbrev pub IsRefused : List File → List ℕ → Refusal → Type 0
 IsRefused files name (Missing refused) = (refused ≡ name) × (file_named files name ≡ None)
 IsRefused files name (TooLong refused) =
-    (refused ≡ name) × ((bytes : List ℕ) × (file_named files name ≡ Some bytes) × (most_bytes < length bytes))
-IsRefused files name (NotPlain refused number) =
-    (refused ≡ name) × ((bytes : List ℕ) × (file_named files name ≡ Some bytes) × (length bytes ≤ most_bytes) × IsNotPlain bytes number)
+    (refused ≡ name) × ((bytes : List ℕ) × (file_named files name ≡ Some bytes) × (most_read < length bytes))
+IsRefused files name (BadCapture refused e) =
+    (refused ≡ name) × ((bytes : List ℕ) × (file_named files name ≡ Some bytes) × IsRefusedFirst bytes e)
+IsRefused files name (HeadersCut refused number) =
+    (refused ≡ name) × ((bytes : List ℕ) × (file_named files name ≡ Some bytes) × CutsHeaders bytes number)
 
 -- the first capture is judged whole, and then the second: this refusal comes first
 abbrev pub LinkRefusal : List File → Link → Refusal → Type 0

@@ -1,8 +1,18 @@
--- The marked records of a plain capture.
-use Rattle.std.specs.Prelude.{◌≡◌, ◌≢◌, ◌⊎◌, ℕ, ◌+◌, ◌*◌, ◌/◌, ◌≤◌, List, [], ◌∷◌, false, length, take, drop, slice_index}
-use Rattle.am_opts.specs.Marking.{Marking, Spells}
-use Rattle.am_pcap.specs.Packets.{IsWhole, first_packet, behind_first, reading_of}
-use Rattle.am_pcap.specs.Plain.{HasPlainHead}
+-- The marked records of a capture.
+use Rattle.std.specs.Prelude.{◌≡◌, ◌≢◌, ℕ, ◌+◌, ◌≤◌, List, [], ◌∷◌, ◌++◌, length, drop}
+use Rattle.am_opts.specs.Marking.{Marking}
+use Rattle.am_ip6.specs.Marks.{Seen}
+use Rattle.am_ip6.specs.Marks.Seen.{Marks, NoMark, CutOff}
+use Rattle.am_ip6.specs.Seen.{IsSeen}
+use Rattle.am_ip6.specs.declared.marks.Place.TheVariants.{HopByHop}
+use Rattle.am_pcap.specs.Packets.{Packet, reading_of}
+use Rattle.am_pcap.specs.Frames.{IsFramed}
+use Rattle.am_pcap.specs.Readings.{most_read}
+use Rattle.am_pcap.specs.declared.head.Head.{Head}
+use Rattle.am_pcap.specs.declared.frame.LinkKind.{LinkKind}
+use Rattle.am_pcap.specs.declared.frame.Frame.{Frame}
+use Rattle.am_pcap.specs.declared.frame.Frame.TheVariants.{Ip6, Other, Cut}
+use Rattle.am_cli.specs.CaptureFiles.{Begins, is_whole}
 
 -- a record with a mark: its number in the capture, when it was seen, and what its mark says
 pub record Marked : Type 0 where
@@ -10,43 +20,43 @@ pub record Marked : Type 0 where
   pub reading : ℕ
   pub mark : Marking
 
--- an IPv6 packet whose first header behind the fixed one is a Hop-by-Hop header of eight bytes that holds this mark alone (RFC 8200, sections 3 and 4.3; RFC 9343, section 3)
-pub record IsPlainlyMarked (packet : List ℕ) (mark : Marking) : Type 0 where
-  pub long : 48 ≤ length packet
-  pub version : slice_index packet 0 / 16 ≡ 6
-  pub payload : 8 ≤ slice_index packet 4 * 256 + slice_index packet 5
-  pub hop_by_hop : slice_index packet 6 ≡ 0
-  pub eight_bytes : slice_index packet 41 ≡ 0
-  pub spelled : Spells (take 6 (drop 42 packet)) mark
+-- what a record that holds this frame shows of a mark in a Hop-by-Hop header (RFC 9343, section 4)
+abbrev pub ShowsMark : Packet → Frame → Seen → Type 0
+ShowsMark p (Ip6 at) seen = IsSeen (drop at p.bytes) (is_whole p) HopByHop seen
+ShowsMark p Other seen = seen ≡ NoMark
+ShowsMark p Cut seen = seen ≡ CutOff
 
--- the bytes begin with a whole record that is plainly marked: it is this one, and this stands behind it
-pub record Begins (bytes : List ℕ) (m : Marked) (rest : List ℕ) : Type 0 where
-  pub whole : IsWhole false bytes
-  pub marked : IsPlainlyMarked (first_packet false bytes).bytes m.mark
-  pub read_at : m.reading ≡ reading_of false (first_packet false bytes)
-  pub behind : rest ≡ behind_first false bytes
+-- what a record of this link type shows of a mark
+pub record IsSeenIn (link : LinkKind) (p : Packet) (seen : Seen) : Type 0 where
+  pub frame : Frame
+  pub framed : IsFramed link p.bytes (is_whole p) frame
+  pub shows : ShowsMark p frame seen
 
--- the bytes are these marked records, numbered from here, and then the rest
-abbrev pub HoldsMarked : ℕ → List ℕ → List Marked → List ℕ → Type 0
-HoldsMarked number bytes [] rest = bytes ≡ rest
-HoldsMarked number bytes (m ∷ ms) rest =
-    (mid : List ℕ) × Begins bytes m mid × (m.number ≡ number) × HoldsMarked (number + 1) mid ms rest
+-- the marked record that a record of this number is, where it shows a mark
+abbrev pub marked_in : Head → ℕ → Packet → Seen → List Marked
+marked_in h number p (Marks mark at) = record { number = number; reading = reading_of h.form.nano p; mark = mark } ∷ []
+marked_in h number p NoMark = []
+marked_in h number p CutOff = []
 
--- the bytes are a plain capture with these marked records and no others
-pub record IsPlainCapture (bytes : List ℕ) (ms : List Marked) : Type 0 where
-  pub head : HasPlainHead bytes
-  pub records : HoldsMarked 1 (drop 24 bytes) ms []
+-- none of these records, numbered from here, has headers that are cut, and these are the marked ones
+abbrev pub AreMarked : Head → ℕ → List Packet → List Marked → Type 0
+AreMarked h number [] ms = ms ≡ []
+AreMarked h number (p ∷ ps) ms =
+    (seen : Seen) × (rest : List Marked) × IsSeenIn h.link p seen × (seen ≢ CutOff) × AreMarked h (number + 1) ps rest
+    × (ms ≡ marked_in h number p seen ++ rest)
 
--- the bytes begin as a plain capture, and the record of this number isn't there whole or isn't plainly marked
-pub record StopsAt (bytes : List ℕ) (number : ℕ) : Type 0 where
-  pub head : HasPlainHead bytes
-  pub before : List Marked
+-- the record of this number is the first whose headers are cut; it stands in a front of at most 2^40 bytes
+pub record CutsHeaders (bytes : List ℕ) (number : ℕ) : Type 0 where
+  pub front : List ℕ
   pub rest : List ℕ
-  pub records : HoldsMarked 1 (drop 24 bytes) before rest
+  pub split : bytes ≡ front ++ rest
+  pub short : length front ≤ most_read
+  pub head : Head
+  pub before : List Packet
+  pub packet : Packet
+  pub behind : List ℕ
+  pub begins : Begins front head (before ++ packet ∷ []) behind
+  pub marked : List Marked
+  pub uncut : AreMarked head 1 before marked
+  pub cut : IsSeenIn head.link packet CutOff
   pub counted : number ≡ length before + 1
-  pub more : rest ≢ []
-  pub no_next : (m : Marked) (behind : List ℕ) → Begins rest m behind → ⊥
-
--- the bytes are no plain capture: what is wrong is the file header, which is number 0, or this record
-abbrev pub IsNotPlain : List ℕ → ℕ → Type 0
-IsNotPlain bytes number = ((number ≡ 0) × (HasPlainHead bytes → ⊥)) ⊎ StopsAt bytes number

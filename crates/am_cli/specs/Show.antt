@@ -1,69 +1,56 @@
 -- What `show` prints, and which refusal of its file comes first.
-use Rattle.std.specs.Prelude.{◌≡◌, ◌≢◌, ◌⊎◌, ℕ, ◌+◌, ◌<◌, ◌≤◌, false, List, [], length, take, drop, Option, Some, None}
+use Rattle.std.specs.Prelude.{◌≡◌, ◌⊎◌, ℕ, ◌<◌, ◌≤◌, List, [], length, take, Option, Some, None, Ok}
 use Rattle.am_base.specs.Shelves.{File, Told, OnTold, file_named}
-use Rattle.am_pcap.specs.Packets.{Packet, IsWhole, HoldsPackets}
-use Rattle.am_pcap.specs.Plain.{HasPlainHead}
+use Rattle.am_pcap.specs.Packets.{Packet}
+use Rattle.am_pcap.specs.Heads.{judged}
+use Rattle.am_pcap.specs.Captures.{IsCapture}
+use Rattle.am_pcap.specs.Readings.{most_read}
+use Rattle.am_pcap.specs.declared.refusal.CapError.{CapError}
+use Rattle.am_pcap.specs.declared.head.Head.{Head}
+use Rattle.am_cli.specs.CaptureFiles.{Begins, IsRefusedIn}
 use Rattle.am_cli.specs.Commands.{Show}
-use Rattle.am_cli.specs.Link.{most_bytes}
 use Rattle.am_cli.specs.Lines.{AreLines}
 use Rattle.am_cli.specs.Stops.{Refusal, Stop}
-use Rattle.am_cli.specs.Stops.Refusal.{Missing, TooLong, NotPlain}
+use Rattle.am_cli.specs.Stops.Refusal.{Missing, TooLong, BadCapture, HeadersCut}
 use Rattle.am_cli.specs.Stops.Stop.{NoCommand, Refused, ReadFault, WriteFault, NoMemory}
-
--- the file of this name is not too long, and its bytes are these
-pub record HasBytes (files : List File) (name bytes : List ℕ) : Type 0 where
-  pub there : file_named files name ≡ Some bytes
-  pub short : length bytes ≤ most_bytes
-
--- the bytes begin as a plain capture with these packets, and then comes the rest
-pub record BeginsPlain (bytes : List ℕ) (ps : List Packet) (rest : List ℕ) : Type 0 where
-  pub head : HasPlainHead bytes
-  pub records : HoldsPackets false (drop 24 bytes) ps rest
-
--- after these packets comes no whole record, though there are bytes
-pub record BreaksOff (bytes : List ℕ) (ps : List Packet) : Type 0 where
-  pub rest : List ℕ
-  pub begins : BeginsPlain bytes ps rest
-  pub more : rest ≢ []
-  pub no_record : IsWhole false rest → ⊥
-
--- what is wrong with the bytes: the file header, which is number 0, or the record of this number, after these packets
-abbrev pub IsBroken : List ℕ → ℕ → List Packet → Type 0
-IsBroken bytes number ps =
-    ((number ≡ 0) × (ps ≡ []) × (HasPlainHead bytes → ⊥)) ⊎ ((number ≡ length ps + 1) × BreaksOff bytes ps)
 
 -- the file is refused so; marks aren't asked for
 abbrev pub ShowRefusal : List File → Show → Refusal → Type 0
 ShowRefusal files s (Missing refused) = (refused ≡ s.file) × (file_named files s.file ≡ None)
 ShowRefusal files s (TooLong refused) =
-    (refused ≡ s.file) × ((bytes : List ℕ) × (file_named files s.file ≡ Some bytes) × (most_bytes < length bytes))
-ShowRefusal files s (NotPlain refused number) =
-    (refused ≡ s.file) × ((bytes : List ℕ) × (ps : List Packet) × HasBytes files s.file bytes × IsBroken bytes number ps)
+    (refused ≡ s.file) × ((bytes : List ℕ) × (file_named files s.file ≡ Some bytes) × (most_read < length bytes))
+ShowRefusal files s (BadCapture refused e) =
+    (refused ≡ s.file) × ((bytes : List ℕ) × (ps : List Packet) × (file_named files s.file ≡ Some bytes) × IsRefusedIn bytes e ps)
+ShowRefusal files s (HeadersCut refused number) = ⊥
 
 -- what is printed of the first records
 pub record ShowsFirst (files : List File) (s : Show) (text : List ℕ) : Type 0 where
   pub bytes : List ℕ
+  pub head : Head
   pub packets : List Packet
   pub rest : List ℕ
-  pub file : HasBytes files s.file bytes
-  pub begins : BeginsPlain bytes packets rest
-  pub lines : AreLines 1 packets text
+  pub file : file_named files s.file ≡ Some bytes
+  pub begins : Begins bytes head packets rest
+  pub lines : AreLines head 1 packets text
 
 -- what is printed: the line of each record
 pub record IsShowProduct (files : List File) (s : Show) (text : List ℕ) : Type 0 where
   pub bytes : List ℕ
+  pub head : Head
   pub packets : List Packet
-  pub file : HasBytes files s.file bytes
-  pub capture : BeginsPlain bytes packets []
-  pub lines : AreLines 1 packets text
+  pub file : file_named files s.file ≡ Some bytes
+  pub short : length bytes ≤ most_read
+  pub capture : IsCapture bytes head packets
+  pub lines : AreLines head 1 packets text
 
--- what is printed before a record is refused: the lines of the records before it, and nothing where the file header is
-pub record ShowsBefore (files : List File) (s : Show) (number : ℕ) (text : List ℕ) : Type 0 where
+-- what is printed before a record is refused: the lines of the records before it, and nothing where the file header is refused
+pub record ShowsBefore (files : List File) (s : Show) (e : CapError) (text : List ℕ) : Type 0 where
   pub bytes : List ℕ
   pub packets : List Packet
-  pub file : HasBytes files s.file bytes
-  pub broken : IsBroken bytes number packets
-  pub lines : AreLines 1 packets text
+  pub file : file_named files s.file ≡ Some bytes
+  pub refused : IsRefusedIn bytes e packets
+  pub none : packets ≡ [] → text ≡ []
+  pub lines : (h : Head) → judged (take 24 bytes) ≡ Ok h → AreLines h 1 packets text
 
 -- nothing, or a front of what is printed of some first records
 abbrev pub ShowsFront : List File → Show → List ℕ → Type 0
@@ -73,8 +60,9 @@ ShowsFront files s printed = (printed ≡ []) ⊎ ((text : List ℕ) × (k : ℕ
 abbrev pub ShowLeaves : Option Told → Show → Stop → List ℕ → Type 0
 ShowLeaves told s NoCommand printed = printed ≡ []
 ShowLeaves told s (Refused (Missing name)) printed = printed ≡ []
-ShowLeaves told s (Refused (TooLong name)) printed = printed ≡ []
-ShowLeaves told s (Refused (NotPlain name number)) printed = OnTold told (λ t. ShowsBefore t.files s number printed)
-ShowLeaves told s (ReadFault name) printed = printed ≡ []
+ShowLeaves told s (Refused (TooLong name)) printed = OnTold told (λ t. ShowsFront t.files s printed)
+ShowLeaves told s (Refused (BadCapture name e)) printed = OnTold told (λ t. ShowsBefore t.files s e printed)
+ShowLeaves told s (Refused (HeadersCut name number)) printed = ⊥
+ShowLeaves told s (ReadFault name) printed = OnTold told (λ t. ShowsFront t.files s printed)
 ShowLeaves told s WriteFault printed = OnTold told (λ t. ShowsFront t.files s printed)
 ShowLeaves told s NoMemory printed = OnTold told (λ t. ShowsFront t.files s printed)

@@ -1,7 +1,7 @@
 -- What the program's own values say: a command, a stop.
 use Rattle.std.specs.Prelude.{ℕ, List}
-use Rattle.am_base.specs.declared.file.FileFault.{FileFault}
-use Rattle.am_base.specs.declared.file.FileFault.TheVariants as fault
+use Rattle.am_pcap.specs.declared.capture.FileError.{FileError}
+use Rattle.am_pcap.specs.declared.capture.FileError.TheVariants as fault
 use Rattle.am_cli.specs.Commands as said
 use Rattle.am_cli.specs.Commands.{Link, Show}
 use Rattle.am_cli.specs.Stops as told
@@ -10,7 +10,7 @@ use Rattle.am_cli.specs.declared.words.ShowWords.{ShowWords}
 use Rattle.am_cli.specs.declared.words.Command.{Command}
 use Rattle.am_cli.specs.declared.words.Command.TheVariants.{Link as LinkCommand, Show as ShowCommand}
 use Rattle.am_cli.specs.declared.stop.Refusal.{Refusal}
-use Rattle.am_cli.specs.declared.stop.Refusal.TheVariants.{Missing, TooLong, NotPlain}
+use Rattle.am_cli.specs.declared.stop.Refusal.TheVariants.{Missing, TooLong, BadCapture, HeadersCut}
 use Rattle.am_cli.specs.declared.stop.Stop.{Stop}
 use Rattle.am_cli.specs.declared.stop.Stop.TheVariants.{NoCommand, Refused, ReadFault, WriteFault, NoMemory}
 
@@ -37,7 +37,8 @@ command_shown (ShowCommand w) = said.Command.Showing (show_shown w)
 abbrev pub refusal_shown : Refusal → told.Refusal
 refusal_shown (Missing name) = told.Refusal.Missing name.now
 refusal_shown (TooLong name) = told.Refusal.TooLong name.now
-refusal_shown (NotPlain name number) = told.Refusal.NotPlain name.now number
+refusal_shown (BadCapture name error) = told.Refusal.BadCapture name.now error
+refusal_shown (HeadersCut name number) = told.Refusal.HeadersCut name.now number
 
 -- what a `Stop` says
 abbrev pub stop_shown : Stop → told.Stop
@@ -47,9 +48,10 @@ stop_shown (ReadFault name) = told.Stop.ReadFault name.now
 stop_shown WriteFault = told.Stop.WriteFault
 stop_shown NoMemory = told.Stop.NoMemory
 
--- the stop where a file could not be read whole
-abbrev pub stop_of_file : List ℕ → FileFault → told.Stop
+-- the stop where a capture could not be read on
+abbrev pub stop_of_file : List ℕ → FileError → told.Stop
 stop_of_file name fault.Missing = told.Stop.Refused (told.Refusal.Missing name)
 stop_of_file name fault.ReadFault = told.Stop.ReadFault name
 stop_of_file name fault.TooLong = told.Stop.Refused (told.Refusal.TooLong name)
+stop_of_file name (fault.Bad error) = told.Stop.Refused (told.Refusal.BadCapture name error)
 stop_of_file name fault.Memory = told.Stop.NoMemory

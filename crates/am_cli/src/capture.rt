@@ -1,31 +1,36 @@
-//! A plain capture whose records are all marked: it is judged whole, and its records of one flow are counted.
-ghost use Rattle.std.specs.Prelude.{◌≡◌, ◌+◌, ◌^◌, ◌<◌, ◌≤◌, ℕ, List, drop, length, OnOk, IfErr, IfSome, IfNone};
-ghost use Rattle.am_opts.specs.Marking.{Marking};
-ghost use Rattle.am_cli.specs.Marked.{Marked, IsPlainlyMarked, Begins};
+//! A capture whose marked records of one flow are counted.
+ghost use Rattle.std.specs.Prelude.{◌≡◌, ◌+◌, ◌^◌, ◌<◌, ◌≤◌, ℕ, OnOk, IfErr};
+ghost use Rattle.am_base.specs.Counts.{Rose};
+ghost use Rattle.am_base.specs.Shelves.{OnTold};
+ghost use Rattle.am_base.specs.Files.{KeepsFiles};
+ghost use Rattle.am_ip6.specs.Seen.{seen_shown};
+ghost use Rattle.am_pcap.specs.Shown.{packet_shown};
+ghost use Rattle.am_cli.specs.Marked.{IsSeenIn};
 ghost use Rattle.am_cli.specs.Tallies.{tally, other, IsCounted};
-ghost use Rattle.am_cli.specs.Counting.{marked_shown, one_in, Counted, Faulted};
+ghost use Rattle.am_cli.specs.Counting.{marked_shown, one_in, CountsRecord, NotCounted};
+ghost use Rattle.am_cli.specs.Link.{TakesFile, IsFileStop};
+ghost use Rattle.am_cli.specs.Stops.{stop_status};
+ghost use Rattle.am_cli.specs.Shown.{stop_shown};
 
-use crate::plain::{HEAD_LENGTH, PLAIN};
+use crate::stop::{Refusal, Stop, file_stop};
 use crate::table::{Side, Table};
+use am_base::Shelf;
 use am_clock::Timing;
-use am_opts::{Mark, decode_mark};
-use am_pcap::{plain_head, plain_record};
-use std::alloc::AllocError;
+use am_ip6::{Found, Place, find_mark};
+use am_opts::Mark;
+use am_pcap::{Capture, Frame, Head, LinkKind, Record, packet_of};
+use std::alloc::{AllocError, Global};
 
-/// How many bytes a packet with a mark has at least: the fixed IPv6 header, and a Hop-by-Hop header of eight bytes.
-const MARKED_LENGTH: usize = 48;
-
-/// Why a capture could not be counted.
+/// Why a record could not be counted.
 #[derive(Clone, Copy, Debug, PartialEq, Eq)]
-pub enum CountFault {
-    /// The capture is not plain: number 0 for its file header, else the first record that isn't there whole or isn't
-    /// plainly marked.
-    NotPlain { number: u64 },
+pub enum RecordFault {
+    /// Its headers are cut: bytes that may hold a mark were not captured.
+    Cut,
     /// There was not enough memory.
     Memory,
 }
 
-/// A record of a capture whose packet is plainly marked.
+/// A record of a capture whose packet is marked.
 #[derive(Clone, Copy, Debug)]
 pub struct MarkedRecord {
     /// The record's place in its capture, from 1.
@@ -36,46 +41,100 @@ pub struct MarkedRecord {
     pub mark: Mark,
 }
 
-/// Counts the records of a plain capture, all of one side, that are of this flow: each in the block that it belongs to
-/// at a node of this shift, in nanoseconds. The table has nothing on that side before, and its other side stays as it is.
-///
-/// `NotPlain`: the file header is no plain one, or a record isn't there whole or isn't plainly marked. `Memory`: there
-/// was not enough.
-pub fn count_capture(
-    bytes: &[u8],
+/// Counts the records of a capture, all of one side, that are marked in a Hop-by-Hop header and of this flow: each in the
+/// block that it belongs to at a node of this shift, in nanoseconds. The table has nothing on that side before, and its
+/// other side stays as it is.
+pub fn count_file<'a, S: Shelf>(
+    alloc: Global,
+    shelf: &mut S,
+    name: &'a str,
     timing: &Timing,
     flow: u32,
     shift: u64,
     side: Side,
     table: &mut Table,
-) -> Result<(), CountFault>
+) -> Result<(), Stop<'a>>
     requires shift { shift ≤ 2 ^ 40 }
     requires counted { IsCounted table.old }
-    requires empty { (b : ℕ) → tally table.old side b ≡ 0 }
+    requires fresh { (b : ℕ) → tally table.old side b ≡ 0 }
     ensures counted { OnOk result (IsCounted table.new) }
-    ensures taken { OnOk result (Counted bytes.now timing.now flow shift side table.old table.new) }
-    ensures not_plain { IfErr result (λ e. Faulted bytes.now e) }
+    ensures taken { OnOk result (OnTold (S.told shelf.old) (λ t. TakesFile t.files name.now timing.now flow shift (tally table.new side))) }
+    ensures other { OnOk result ((b : ℕ) → tally table.new (other side) b ≡ tally table.old (other side) b) }
+    ensures stopped { IfErr result (λ s. IsFileStop (S.told shelf.old) name.now (stop_shown s)) }
+    ensures missing { IfErr result (λ s. stop_status (stop_shown s) ≡ 4 → Rose (S.missed shelf.old) (S.missed shelf.new)) }
+    ensures read_fault { IfErr result (λ s. stop_status (stop_shown s) ≡ 5 → Rose (S.faults shelf.old) (S.faults shelf.new)) }
+    ensures files { KeepsFiles (S.told shelf.old) (S.told shelf.new) }
+    ensures faults_stay { S.faults shelf.old ≤ S.faults shelf.new }
+    ensures missed_stay { S.missed shelf.old ≤ S.missed shelf.new }
 {
-    if !plain_head(bytes) {
-        return Err(CountFault::NotPlain { number: 0 });
-    }
-    let mut at = HEAD_LENGTH;
-    let mut number = 1;
-    while at < bytes.len() {
-        let Some((marked, behind)) = next_marked(bytes, at, number) else {
-            return Err(CountFault::NotPlain { number });
+    let mut capture = match Capture::open(alloc, shelf, name) {
+        Ok(capture) => capture,
+        Err(error) => return Err(file_stop(name, error)),
+    };
+    let head = capture.head();
+    'records: loop {
+        let record = match capture.next(shelf) {
+            Ok(Some(record)) => record,
+            Ok(None) => return Ok(()),
+            Err(error) => return Err(file_stop(name, error)),
         };
-        let Ok(()) = count_record(&marked, timing, flow, shift, side, table) else {
-            return Err(CountFault::Memory);
-        };
-        at = behind;
-        number += 1;
+        match count_record(&record, &head, timing, flow, shift, side, table) {
+            Ok(()) => {}
+            Err(RecordFault::Cut) => {
+                let number = record.number;
+                return Err(Stop::Refused(Refusal::HeadersCut { name, number }));
+            }
+            Err(RecordFault::Memory) => return Err(Stop::NoMemory),
+        }
     }
+}
+
+// Counts one record on a side, where it is marked, of the flow, and belongs to a block.
+fn count_record(
+    record: &Record<'_>,
+    head: &Head,
+    timing: &Timing,
+    flow: u32,
+    shift: u64,
+    side: Side,
+    table: &mut Table,
+) -> Result<(), RecordFault>
+    requires shift { shift ≤ 2 ^ 40 }
+    requires counted { IsCounted table.old }
+    requires fits { (b : ℕ) → tally table.old side b + 1 < 2 ^ 64 }
+    ensures counts { OnOk result (CountsRecord head.now record.now.number (packet_shown record.now) timing.now flow shift side table.old table.new) }
+    ensures fault { IfErr result (λ e. NotCounted head.now (packet_shown record.now) e) }
+{
+    let mark = match mark_in(record, head.link) {
+        Found::Marked { mark, .. } => mark,
+        Found::Unmarked => return Ok(()),
+        Found::Cut => return Err(RecordFault::Cut),
+    };
+    let marked = MarkedRecord {
+        number: record.number,
+        reading: record.reading(head.form),
+        mark,
+    };
+    let Ok(()) = count_marked(&marked, timing, flow, shift, side, table) else {
+        return Err(RecordFault::Memory);
+    };
     Ok(())
 }
 
-// Counts one record on a side, where it is of the flow and belongs to a block.
-fn count_record(
+// What a record shows of a mark in a Hop-by-Hop header.
+fn mark_in(record: &Record<'_>, link: LinkKind) -> Found
+    ensures { IsSeenIn link (packet_shown record.now) (seen_shown result) }
+{
+    let whole = record.whole();
+    match packet_of(link, record.bytes, whole) {
+        Frame::Ip6 { at } => find_mark(&record.bytes[at..], whole, Place::HopByHop),
+        Frame::Other => Found::Unmarked,
+        Frame::Cut => Found::Cut,
+    }
+}
+
+// Counts one marked record on a side, where it is of the flow and belongs to a block.
+fn count_marked(
     marked: &MarkedRecord,
     timing: &Timing,
     flow: u32,
@@ -97,61 +156,4 @@ fn count_record(
         Some(block) => table.count(side, block),
         None => Ok(()),
     }
-}
-
-// The marked record that stands at a place of a plain capture, and the place behind it.
-fn next_marked(bytes: &[u8], at: usize, number: u64) -> Option<(MarkedRecord, usize)>
-    requires { at ≤ length bytes.now }
-    ensures only { IfSome result (λ r. Begins (drop at bytes.now) (marked_shown r.0) (drop r.1 bytes.now)) }
-    ensures number { IfSome result (λ r. r.0.number ≡ number) }
-    ensures advances { IfSome result (λ r. at < r.1) }
-    ensures within { IfSome result (λ r. r.1 ≤ length bytes.now) }
-    ensures none { IfNone result ((m : Marked) (rest : List ℕ) → Begins (drop at bytes.now) m rest → ⊥) }
-{
-    let Some((record, behind)) = plain_record(bytes, at, number) else {
-        return None;
-    };
-    let Some(mark) = plain_mark(record.bytes) else {
-        return None;
-    };
-    let reading = record.reading(PLAIN);
-    Some((
-        MarkedRecord {
-            number: record.number,
-            reading,
-            mark,
-        },
-        behind,
-    ))
-}
-
-// The mark of a packet that is plainly marked: an IPv6 packet, with a Hop-by-Hop header of eight bytes behind its fixed
-// header of 40 bytes, that holds the mark alone.
-fn plain_mark(packet: &[u8]) -> Option<Mark>
-    ensures only { IfSome result (λ m. IsPlainlyMarked packet.now m) }
-    ensures none { IfNone result ((m : Marking) → IsPlainlyMarked packet.now m → ⊥) }
-{
-    if packet.len() < MARKED_LENGTH {
-        return None;
-    }
-    // The version stands in the upper four bits of the first byte.
-    if packet[0] / 16 != 6 {
-        return None;
-    }
-    // The length of all behind the fixed header, in bytes.
-    if u16::from_be_bytes([packet[4], packet[5]]) < 8 {
-        return None;
-    }
-    // The kind of the header behind the fixed one: 0 is a Hop-by-Hop header.
-    if packet[6] != 0 {
-        return None;
-    }
-    // That header's length beyond its first eight bytes.
-    if packet[41] != 0 {
-        return None;
-    }
-    let Some((mark, _)) = decode_mark(&packet[42..]) else {
-        return None;
-    };
-    Some(mark)
 }

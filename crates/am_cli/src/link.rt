@@ -1,26 +1,22 @@
 //! The command `link`: what entered at one point, what left at the next, and what was lost between them, block by block.
-ghost use Rattle.std.specs.Prelude.{◌≡◌, ◌≤◌, ◌^◌, ℕ, List, OnOk, IfErr};
+ghost use Rattle.std.specs.Prelude.{◌≡◌, ℕ, List, OnOk, IfErr};
 ghost use Rattle.std.specs.Io.KnownBytes.{append_known};
 ghost use Rattle.am_base.specs.Counts.{Rose};
 ghost use Rattle.am_base.specs.Shelves.{OnTold};
-ghost use Rattle.am_base.specs.Files.{KeepsFiles};
 ghost use Rattle.am_cli.specs.Commands.Command.{Linking};
-ghost use Rattle.am_cli.specs.Tallies.{tally, other, IsCounted};
 ghost use Rattle.am_cli.specs.Stops.{stop_status};
-ghost use Rattle.am_cli.specs.Link.{IsLinkProduct, IsFileStop, TakesFile};
+ghost use Rattle.am_cli.specs.Link.{IsLinkProduct};
 ghost use Rattle.am_cli.specs.Runs.{IsStopOf, PrintsLast};
 ghost use Rattle.am_cli.specs.Shown.{link_shown, stop_shown};
 
-use crate::capture::{CountFault, count_capture};
-use crate::plain::MOST_BYTES;
-use crate::stop::{Refusal, Stop, file_stop};
+use crate::capture::count_file;
+use crate::stop::Stop;
 use crate::table::{Side, Table};
 use crate::words::LinkWords;
-use am_base::{Shelf, Sink, put, read_file};
-use am_clock::Timing;
+use am_base::{Shelf, Sink, put};
 use std::alloc::Global;
 
-/// Reads both captures, the first whole before the second, and prints the table of their flow's records: those of the
+/// Reads both captures, the first to its end before the second, and prints the table of their flow's records: those of the
 /// first point at shift 0, those of the second at the smallest delay. Nothing is printed before both were accepted.
 pub fn link<'a, S: Shelf, O: Sink>(
     alloc: Global,
@@ -70,42 +66,5 @@ pub fn link<'a, S: Shelf, O: Sink>(
     match put(out, text.as_bytes()) {
         Ok(()) => Ok(()),
         Err(_) => Err(Stop::WriteFault),
-    }
-}
-
-// Reads one capture whole, judges it, and counts its records of the flow on one side of the table.
-fn count_file<'a, S: Shelf>(
-    alloc: Global,
-    shelf: &mut S,
-    name: &'a str,
-    timing: &Timing,
-    flow: u32,
-    shift: u64,
-    side: Side,
-    table: &mut Table,
-) -> Result<(), Stop<'a>>
-    requires shift { shift ≤ 2 ^ 40 }
-    requires counted { IsCounted table.old }
-    requires fresh { (b : ℕ) → tally table.old side b ≡ 0 }
-    ensures counted { OnOk result (IsCounted table.new) }
-    ensures taken { OnOk result (OnTold (S.told shelf.old) (λ t. TakesFile t.files name.now timing.now flow shift (tally table.new side))) }
-    ensures other { OnOk result ((b : ℕ) → tally table.new (other side) b ≡ tally table.old (other side) b) }
-    ensures stopped { IfErr result (λ s. IsFileStop (S.told shelf.old) name.now (stop_shown s)) }
-    ensures missing { IfErr result (λ s. stop_status (stop_shown s) ≡ 4 → Rose (S.missed shelf.old) (S.missed shelf.new)) }
-    ensures read_fault { IfErr result (λ s. stop_status (stop_shown s) ≡ 5 → Rose (S.faults shelf.old) (S.faults shelf.new)) }
-    ensures files { KeepsFiles (S.told shelf.old) (S.told shelf.new) }
-    ensures faults_stay { S.faults shelf.old ≤ S.faults shelf.new }
-    ensures missed_stay { S.missed shelf.old ≤ S.missed shelf.new }
-{
-    let bytes = match read_file(alloc, shelf, name, MOST_BYTES) {
-        Ok(bytes) => bytes,
-        Err(fault) => return Err(file_stop(name, fault)),
-    };
-    match count_capture(&bytes, timing, flow, shift, side, table) {
-        Ok(()) => Ok(()),
-        Err(CountFault::NotPlain { number }) => {
-            Err(Stop::Refused(Refusal::NotPlain { name, number }))
-        }
-        Err(CountFault::Memory) => Err(Stop::NoMemory),
     }
 }

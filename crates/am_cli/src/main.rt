@@ -6,13 +6,10 @@
 
 mod capture;
 mod link;
-mod plain;
 mod run;
 mod show;
 mod stop;
 mod table;
-#[cfg(test)]
-mod tests;
 mod words;
 
 use am_base::{DiskShelf, StdSink};

@@ -1,5 +1,5 @@
 //! The command `show`: what each record of a capture says, a line a record.
-ghost use Rattle.std.specs.Prelude.{◌≡◌, ◌++◌, ℕ, List, OnOk, IfErr, IsErrOf, flat_map, codes, decimal, string_bytes};
+ghost use Rattle.std.specs.Prelude.{◌≡◌, ◌++◌, ℕ, List, OnOk, IfErr, flat_map, codes, decimal, string_bytes};
 ghost use Rattle.std.specs.Io.KnownBytes.{append_known};
 ghost use Rattle.am_base.specs.Counts.{Rose};
 ghost use Rattle.am_base.specs.Shelves.{OnTold};
@@ -12,21 +12,19 @@ ghost use Rattle.am_cli.specs.Commands.Command.{Showing};
 ghost use Rattle.am_cli.specs.Lines.{IsLine, header_text, ending_text, seen_text};
 ghost use Rattle.am_cli.specs.Stops.{stop_status};
 ghost use Rattle.am_cli.specs.Show.{IsShowProduct, ShowLeaves};
-ghost use Rattle.am_cli.specs.Showing.{AddsFrame, AddsPacket, ShowsAll, ShowsUntil};
+ghost use Rattle.am_cli.specs.Showing.{AddsFrame, AddsPacket};
 ghost use Rattle.am_cli.specs.Runs.{IsStopOf};
 ghost use Rattle.am_cli.specs.Shown.{show_shown, stop_shown};
-ghost use Rattle.am_cli.specs.declared.show.ShowFault.TheVariants.{Write};
 
-use crate::plain::{HEAD_LENGTH, MOST_BYTES, PLAIN};
-use crate::stop::{Refusal, Stop, file_stop};
+use crate::stop::{Stop, file_stop};
 use crate::words::ShowWords;
-use am_base::{Shelf, Sink, put, read_file};
+use am_base::{Shelf, Sink, put};
 use am_ip6::{Ending, Found, Place, Walk, find_mark, walk_ending};
-use am_pcap::{Frame, LinkKind, Record, packet_of, plain_head, plain_record};
+use am_pcap::{Capture, Frame, Head, LinkKind, Record, packet_of};
 use std::alloc::{AllocError, Global};
 use std::fmt::Write;
 
-/// Reads the capture whole, and prints the line of each record before it looks at the next.
+/// Reads the capture record by record, and prints the line of each before it looks at the next.
 pub fn show<'a, S: Shelf, O: Sink>(
     alloc: Global,
     words: &ShowWords<'a>,
@@ -40,73 +38,41 @@ pub fn show<'a, S: Shelf, O: Sink>(
     ensures read_fault { IfErr result (λ s. stop_status (stop_shown s) ≡ 5 → Rose (S.faults shelf.old) (S.faults shelf.new)) }
     ensures write_fault { IfErr result (λ s. stop_status (stop_shown s) ≡ 6 → Rose (O.faults out.old) (O.faults out.new)) }
 {
-    let bytes = match read_file(alloc, shelf, words.file, MOST_BYTES) {
-        Ok(bytes) => bytes,
-        Err(fault) => return Err(file_stop(words.file, fault)),
+    let name = words.file;
+    let mut capture = match Capture::open(alloc, shelf, name) {
+        Ok(capture) => capture,
+        Err(error) => return Err(file_stop(name, error)),
     };
-    match show_capture(alloc, &bytes, out) {
-        Ok(()) => Ok(()),
-        Err(ShowFault::NotPlain { number }) => Err(Stop::Refused(Refusal::NotPlain {
-            name: words.file,
-            number,
-        })),
-        Err(ShowFault::Write) => Err(Stop::WriteFault),
-        Err(ShowFault::Memory) => Err(Stop::NoMemory),
-    }
-}
-
-/// Why a capture could not be shown to its end.
-#[derive(Clone, Copy, Debug, PartialEq, Eq)]
-pub enum ShowFault {
-    /// The file header is no plain one, which is number 0, or the record of this number isn't there whole.
-    NotPlain { number: u64 },
-    /// A line could not be written.
-    Write,
-    /// There was not enough memory for a line.
-    Memory,
-}
-
-// Prints the line of each record of a capture, before the next is looked at.
-fn show_capture<O: Sink>(alloc: Global, bytes: &[u8], out: &mut O) -> Result<(), ShowFault>
-    ensures shown { OnOk result (ShowsAll bytes.now (O.written out.old) (O.written out.new)) }
-    ensures stopped { IfErr result (λ e. ShowsUntil bytes.now (O.written out.old) (O.written out.new) e) }
-    ensures write_fault { IsErrOf result Write → Rose (O.faults out.old) (O.faults out.new) }
-{
-    if !plain_head(bytes) {
-        return Err(ShowFault::NotPlain { number: 0 });
-    }
+    let head = capture.head();
     let mut line = String::new(alloc);
-    let mut at = HEAD_LENGTH;
-    let mut number = 1;
-    while at < bytes.len() {
-        let Some((packet, behind)) = plain_record(bytes, at, number) else {
-            return Err(ShowFault::NotPlain { number });
+    'records: loop {
+        let record = match capture.next(shelf) {
+            Ok(Some(record)) => record,
+            Ok(None) => return Ok(()),
+            Err(error) => return Err(file_stop(name, error)),
         };
-        let Ok(()) = show_line(&mut line, &packet) else {
-            return Err(ShowFault::Memory);
+        let Ok(()) = show_line(&mut line, &record, &head) else {
+            return Err(Stop::NoMemory);
         };
         let Ok(()) = put(out, line.as_bytes()) else {
-            return Err(ShowFault::Write);
+            return Err(Stop::WriteFault);
         };
-        at = behind;
-        number += 1;
     }
-    Ok(())
 }
 
 // The line of a record, in the place of what the text was.
-fn show_line(line: &mut String, packet: &Record<'_>) -> Result<(), AllocError>
-    ensures { OnOk result (IsLine packet.now.number (packet_shown packet.now) (string_bytes line.new)) }
+fn show_line(line: &mut String, packet: &Record<'_>, head: &Head) -> Result<(), AllocError>
+    ensures { OnOk result (IsLine head.now packet.now.number (packet_shown packet.now) (string_bytes line.new)) }
 {
     line.clear();
     push_record(
         line,
         packet.number,
-        packet.reading(PLAIN),
+        packet.reading(head.form),
         packet.bytes.len(),
         packet.original,
     )?;
-    push_frame(line, packet)?;
+    push_frame(line, packet, head.link)?;
     line.push_str("\n")?;
     Ok(())
 }
@@ -125,11 +91,11 @@ fn push_record(
 }
 
 // Adds what the record holds.
-fn push_frame(line: &mut String, packet: &Record<'_>) -> Result<(), AllocError>
-    ensures { OnOk result (AddsFrame (packet_shown packet.now) (string_bytes line.old) (string_bytes line.new)) }
+fn push_frame(line: &mut String, packet: &Record<'_>, link: LinkKind) -> Result<(), AllocError>
+    ensures { OnOk result (AddsFrame link (packet_shown packet.now) (string_bytes line.old) (string_bytes line.new)) }
 {
     let whole = packet.whole();
-    match packet_of(LinkKind::RawIp, packet.bytes, whole) {
+    match packet_of(link, packet.bytes, whole) {
         Frame::Ip6 { at } => push_packet(line, &packet.bytes[at..], whole),
         Frame::Other => line.push_str("other"),
         Frame::Cut => line.push_str("cut"),

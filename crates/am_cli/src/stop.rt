@@ -4,7 +4,7 @@ ghost use Rattle.am_cli.specs.Stops.{said_of, refusal_line, refusal_status, stop
 ghost use Rattle.am_cli.specs.Stops as told;
 ghost use Rattle.am_cli.specs.Shown.{refusal_shown, stop_shown, stop_of_file};
 
-use am_base::FileFault;
+use am_pcap::{CapError, FileError};
 use std::alloc::{AllocError, Global};
 use std::fmt::Write;
 
@@ -15,9 +15,10 @@ pub enum Refusal<'a> {
     Missing { name: &'a str },
     /// The file has more bytes than its limit.
     TooLong { name: &'a str },
-    /// The file is no plain capture: number 0 for the file header, else the first record that isn't there whole or isn't
-    /// plainly marked.
-    NotPlain { name: &'a str, number: u64 },
+    /// The bytes of the file are no capture.
+    BadCapture { name: &'a str, error: CapError },
+    /// The headers of the record of this number are cut: bytes that may hold a mark were not captured.
+    HeadersCut { name: &'a str, number: u64 },
 }
 
 /// Why a command stops.
@@ -35,15 +36,16 @@ pub enum Stop<'a> {
     NoMemory,
 }
 
-/// The stop where this file could not be read whole.
-pub fn file_stop(name: &str, fault: FileFault) -> Stop<'_>
-    ensures { stop_shown result ≡ stop_of_file name.now fault }
+/// The stop where this capture could not be read on.
+pub fn file_stop(name: &str, error: FileError) -> Stop<'_>
+    ensures { stop_shown result ≡ stop_of_file name.now error }
 {
-    match fault {
-        FileFault::Missing => Stop::Refused(Refusal::Missing { name }),
-        FileFault::ReadFault => Stop::ReadFault { name },
-        FileFault::TooLong => Stop::Refused(Refusal::TooLong { name }),
-        FileFault::Memory => Stop::NoMemory,
+    match error {
+        FileError::Missing => Stop::Refused(Refusal::Missing { name }),
+        FileError::ReadFault => Stop::ReadFault { name },
+        FileError::TooLong => Stop::Refused(Refusal::TooLong { name }),
+        FileError::Bad(error) => Stop::Refused(Refusal::BadCapture { name, error }),
+        FileError::Memory => Stop::NoMemory,
     }
 }
 
@@ -55,7 +57,8 @@ impl Refusal<'_> {
         match self {
             Refusal::Missing { .. } => 4,
             Refusal::TooLong { .. } => 3,
-            Refusal::NotPlain { .. } => 3,
+            Refusal::BadCapture { .. } => 3,
+            Refusal::HeadersCut { .. } => 3,
         }
     }
 
@@ -66,7 +69,8 @@ impl Refusal<'_> {
         match self {
             Refusal::Missing { name } => said_of(alloc, name, "missing"),
             Refusal::TooLong { name } => said_of(alloc, name, "too long"),
-            Refusal::NotPlain { name, number } => not_plain(alloc, name, *number),
+            Refusal::BadCapture { name, error } => bad_capture(alloc, name, *error),
+            Refusal::HeadersCut { name, number } => headers_cut(alloc, name, *number),
         }
     }
 }
@@ -80,14 +84,62 @@ fn said_of(alloc: Global, name: &str, what: &str) -> Result<String, AllocError>
     Ok(line)
 }
 
-// The line of a capture that is not plain.
-fn not_plain(alloc: Global, name: &str, number: u64) -> Result<String, AllocError>
-    ensures { IfOk result (λ line. string_bytes line ≡ refusal_line (told.Refusal.NotPlain name.now number)) }
+// The line of a capture that is refused.
+fn bad_capture(alloc: Global, name: &str, error: CapError) -> Result<String, AllocError>
+    ensures { IfOk result (λ line. string_bytes line ≡ refusal_line (told.Refusal.BadCapture name.now error)) }
+{
+    match error {
+        CapError::BadMagic => said_of(alloc, name, "bad magic"),
+        CapError::BadVersion => said_of(alloc, name, "bad version"),
+        CapError::UnknownLink { link } => unknown_link(alloc, name, link),
+        CapError::RecordTooLong { number, length } => record_too_long(alloc, name, number, length),
+        CapError::CutFile { number } => file_ends(alloc, name, number),
+    }
+}
+
+// The line of a capture of a link type that is not known.
+fn unknown_link(alloc: Global, name: &str, link: u16) -> Result<String, AllocError>
+    ensures { IfOk result (λ line. string_bytes line ≡ refusal_line (told.Refusal.BadCapture name.now (CapError.UnknownLink link))) }
+{
+    let mut line = String::new(alloc);
+    write!(line, "altmark: {name}: unknown link type {link}\n")?;
+    Ok(line)
+}
+
+// The line of a capture in which a record says too many bytes.
+fn record_too_long(
+    alloc: Global,
+    name: &str,
+    number: u64,
+    length: u32,
+) -> Result<String, AllocError>
+    ensures { IfOk result (λ line. string_bytes line ≡ refusal_line (told.Refusal.BadCapture name.now (CapError.RecordTooLong number length))) }
 {
     let mut line = String::new(alloc);
     write!(
         line,
-        "altmark: {name}: capture is not plain: record {number}\n"
+        "altmark: {name}: record {number} is too long: {length}\n"
+    )?;
+    Ok(line)
+}
+
+// The line of a capture that ends inside a record, or inside its file header, which is number 0.
+fn file_ends(alloc: Global, name: &str, number: u64) -> Result<String, AllocError>
+    ensures { IfOk result (λ line. string_bytes line ≡ refusal_line (told.Refusal.BadCapture name.now (CapError.CutFile number))) }
+{
+    let mut line = String::new(alloc);
+    write!(line, "altmark: {name}: file ends in record {number}\n")?;
+    Ok(line)
+}
+
+// The line of a capture in which the headers of a record are cut.
+fn headers_cut(alloc: Global, name: &str, number: u64) -> Result<String, AllocError>
+    ensures { IfOk result (λ line. string_bytes line ≡ refusal_line (told.Refusal.HeadersCut name.now number)) }
+{
+    let mut line = String::new(alloc);
+    write!(
+        line,
+        "altmark: {name}: headers of record {number} are cut\n"
     )?;
     Ok(line)
 }

@@ -10,3 +10,4 @@ pub mod Refusals
 pub mod Shelved
 pub mod SeekSteps
 pub mod HeadReading
+pub mod Framed

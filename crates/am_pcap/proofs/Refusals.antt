@@ -1,18 +1,19 @@
 -- What stands in bytes, and what stands in longer ones that begin with them: the refusals, and the packets before them.
-use Rattle.std.proofs.Common.{arith, refl, sym, ap, subst, ◌∙◌, ◌≡◌, ℕ, ◌+◌, List, [], ◌∷◌, ◌++◌, length, take, drop, Option, Some, None, Result, Ok, Err, inl, inr}
+use Rattle.std.proofs.Common.{arith, refl, sym, ap, subst, ◌∙◌, ◌≡◌, ℕ, ◌+◌, List, [], ◌∷◌, ◌++◌, length, take, drop, Option, Some, None, Result, Ok, Err, inl, inr, ◌⊎◌}
 use Rattle.std.proofs.lemmas.List.{length-append, take-append-le, drop-append-le, append-nil}
 use Rattle.std.specs.Prelude.{IsSome}
 use Rattle.am_pcap.specs.Packets.{word, Packet, IsWhole, HoldsPackets}
 use Rattle.am_pcap.specs.Heads.{judged, IsJudged}
-use Rattle.am_pcap.specs.Captures.{Summary, HasSummary, IsCapture, IsTooLong, IsRefusedAfter, HasBadRecord, verdict, unless_cut, unless_refused}
+use Rattle.am_pcap.specs.Captures.{Summary, HasSummary, IsCapture, IsTooLong, IsRefused, IsRefusedAfter, HasBadRecord, verdict, unless_cut, unless_refused}
 use Rattle.am_pcap.specs.Decoded.{Decoded, StandsFor, IsLast, Took, Refused, Counts}
 use Rattle.am_pcap.specs.Readings.{IsCut}
 use Rattle.am_pcap.specs.Seeking.{waiting_packets}
 use Rattle.am_pcap.specs.declared.refusal.CapError.{CapError}
-use Rattle.am_pcap.specs.declared.refusal.CapError.TheVariants.{CutFile, RecordTooLong}
+use Rattle.am_pcap.specs.declared.refusal.CapError.TheVariants.{BadMagic, BadVersion, UnknownLink, CutFile, RecordTooLong}
 use Rattle.am_pcap.specs.declared.head.Head.{Head}
 use Rattle.am_pcap.proofs.Splitting.{word-append, packets-append}
-use Rattle.am_pcap.proofs.Summaries.{summaries-grow}
+use Rattle.am_pcap.proofs.Summaries.{summaries-grow, summary-exists}
+use Rattle.am_pcap.proofs.Verdicts.{verdict-exact, verdict-unique}
 use Rattle.am_pcap.proofs.Told.{judged-told}
 
 -- two lists that are one have one last packet
@@ -151,3 +152,39 @@ ends-after bytes ps s r h is says =
     let v : verdict s ≡ unless_cut s.head s.count s.unfinished = ap (λ e. unless_refused e (unless_cut s.head s.count s.unfinished)) is in
     subst (λ x. IsVerdictAfter x s.head bytes ps) (sym (says ∙ v))
     (ends-parts bytes ps s.head s.count s.unfinished s.taken (with-error bytes ps s None is h))
+
+-- a refusal behind some packets is a refusal
+pub after-refused : (e : CapError) (bytes : List ℕ) (ps : List Packet) → IsRefusedAfter e bytes ps → IsRefused e bytes
+after-refused e bytes ps (inl p) = inl (p.0, p.1)
+after-refused e bytes ps (inr (inl p)) = inr (inl (p.0, p.1))
+after-refused e bytes ps (inr (inr p)) = inr (inr p.0)
+
+stays-parts :
+    (front : List ℕ) (qs : List Packet) (s : Summary) (error : Option CapError) (e : CapError) (rest : List ℕ)
+    → HasSummary front qs s → s.error ≡ error → verdict s ≡ Err e → (IsCut e → ⊥) → IsRefused e (front ++ rest)
+stays-parts front qs s None e rest h is says stable =
+    let v : IsVerdictAfter (Err e) s.head front qs = ends-after front qs s (Err e) h is (sym says) in absurd (stable v.0)
+stays-parts front qs s (Some d) e rest h is says stable =
+    let v : verdict s ≡ Err d = ap (λ x. unless_refused x (unless_cut s.head s.count s.unfinished)) is in
+    let same : d ≡ e = cc (v, says) in
+    after-refused e (front ++ rest) qs (subst (λ x. IsRefusedAfter x (front ++ rest) qs) same (refused-after front qs s d h is rest))
+
+-- a refusal that isn't for want of more bytes stays one, whatever bytes follow
+pub stays-refused :
+    (e : CapError) (front : List ℕ) (rest : List ℕ) → IsRefused e front → (IsCut e → ⊥) → IsRefused e (front ++ rest)
+stays-refused e front rest r stable =
+    let s = summary-exists front in
+    stays-parts front s.0 s.1 s.1.error e rest s.2 refl (verdict-exact front s.0 s.1 (Err e) s.2 r) stable
+
+-- a capture isn't refused
+pub capture-not_refused : (bytes : List ℕ) (h : Head) (ps : List Packet) (e : CapError) → IsCapture bytes h ps → IsRefused e bytes → ⊥
+capture-not_refused bytes h ps e c r =
+    let same : Ok tt ≡ Err e = verdict-unique bytes (Ok tt) (Err e) (h, ps, c) r in absurd (cc (same))
+
+-- a refusal is for want of more bytes, or it isn't
+pub cut-or_not : (e : CapError) → IsCut e ⊎ (IsCut e → ⊥)
+cut-or_not (CutFile number) = inl tt
+cut-or_not BadMagic = inr (λ x. x)
+cut-or_not BadVersion = inr (λ x. x)
+cut-or_not (UnknownLink link) = inr (λ x. x)
+cut-or_not (RecordTooLong number length) = inr (λ x. x)

@@ -1,5 +1,5 @@
 -- Where the IPv6 packet begins in the bytes of a record, by the capture's link type.
-use Rattle.std.specs.Prelude.{◌≡◌, ◌≢◌, ◌⊎◌, ℕ, ◌+◌, ◌*◌, ◌/◌, ◌^◌, ◌<◌, ◌≤◌, Bool, List, length, slice_index, if◌then◌else◌}
+use Rattle.std.specs.Prelude.{◌≡◌, ◌≢◌, ◌⊎◌, ℕ, ◌+◌, ◌*◌, ◌/◌, ◌^◌, ◌<◌, ◌≤◌, Bool, List, length, slice_index, if◌then◌else◌, ⊤}
 use Rattle.am_pcap.specs.declared.frame.Frame.{Frame}
 use Rattle.am_pcap.specs.declared.frame.Frame.TheVariants.{Ip6, Other, Cut}
 use Rattle.am_pcap.specs.declared.frame.LinkKind.{LinkKind}
@@ -43,3 +43,9 @@ abbrev pub IsFramed : LinkKind → List ℕ → Bool → Frame → Type 0
 IsFramed Ethernet bytes whole frame = (at : ℕ) × IsTypePlace bytes at × TypeSays bytes whole at frame
 IsFramed RawIp bytes whole frame = VersionSays bytes whole frame
 IsFramed RawIp6 bytes whole frame = frame ≡ Ip6 0
+
+-- the place where a packet begins is within the bytes, or at their end
+abbrev pub IsWithin : Frame → List ℕ → Type 0
+IsWithin (Ip6 at) bytes = at ≤ length bytes
+IsWithin Other bytes = ⊤
+IsWithin Cut bytes = ⊤

@@ -2,7 +2,7 @@
 ghost use Rattle.std.specs.Prelude.{◌≡◌, ◌+◌, ◌≤◌, ◌↔◌, ◌^◌, ◌<◌, length, IsTrue};
 ghost use Rattle.am_pcap.specs.Frames as frames;
 ghost use Rattle.am_pcap.specs.declared.frame.Frame.{Frame};
-ghost use Rattle.am_pcap.specs.Frames.{IsFramed, HasTag, IsTypePlace, TypeSays, VersionSays};
+ghost use Rattle.am_pcap.specs.Frames.{IsFramed, IsWithin, HasTag, IsTypePlace, TypeSays, VersionSays};
 
 #[cfg(test)]
 mod tests;
@@ -52,6 +52,7 @@ pub fn packet_of(link: LinkKind, bytes: &[u8], whole: bool) -> Frame
     ensures framed { IsFramed link bytes.now whole result }
     // Nothing else stands there.
     ensures only { (f : Frame) → IsFramed link bytes.now whole f → result ≡ f }
+    ensures within { IsWithin result bytes.now }
 {
     match link {
         LinkKind::Ethernet => framed_at(bytes, type_place(bytes), whole),
@@ -69,7 +70,8 @@ fn untold(whole: bool) -> Frame
 
 // What the first byte of a raw IP packet says.
 fn raw_ip(bytes: &[u8], whole: bool) -> Frame
-    ensures { VersionSays bytes.now whole result }
+    ensures says { VersionSays bytes.now whole result }
+    ensures within { IsWithin result bytes.now }
 {
     match bytes.first() {
         None => untold(whole),
@@ -115,7 +117,8 @@ fn has_tag(bytes: &[u8], at: usize) -> bool
 // What a type at a place says.
 fn framed_at(bytes: &[u8], at: usize, whole: bool) -> Frame
     requires { at ≤ 20 }
-    ensures { TypeSays bytes.now whole at result }
+    ensures says { TypeSays bytes.now whole at result }
+    ensures within { IsWithin result bytes.now }
 {
     if bytes.len() < at + 2 {
         return untold(whole);

@@ -1,5 +1,6 @@
 use Rattle.std.proofs.Common.{◌∙◌, take, refl}
-use Rattle.am_cli.proofs.LinkLemmas.{second_stops, link_prints, told_more}
+use Rattle.am_cli.proofs.FileLemmas.{told_more}
+use Rattle.am_cli.proofs.LinkLemmas.{second_stops, link_prints}
 use Rattle.am_cli.specs.Shown.{link_shown, stop_shown}
 use Rattle.am_cli.specs.Tallies.{tally, rows_of}
 use Rattle.am_cli.specs.declared.table.Side.TheVariants.{Entered, Left}

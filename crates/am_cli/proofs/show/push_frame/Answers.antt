@@ -8,7 +8,7 @@ use Rattle.am_cli.proofs.show.push_frame.Goals as goal
 pub returns-in-Ip6 : goal.returns-in-Ip6
 returns-in-Ip6 c =
     on_ok c.push_packet.result
-    (λ e. frame_of_packet (packet_shown c.args.packet.now) c.in-Ip6.at c.whole-whole.result _ _ _
+    (λ e. frame_of_packet c.args.link (packet_shown c.args.packet.now) c.in-Ip6.at c.whole-whole.result _ _ _
     (whole_is c.whole-whole.result c.args.packet.now.original (length c.args.packet.now.bytes.now) c.whole-whole.ensures)
     (take_rest c.args.packet.now.bytes.now c.in-Ip6.at) c.in-Ip6.ensures.framed e)
     c.push_packet.ensures

@@ -9,7 +9,7 @@ returns c =
     let start : ℕ → List ℕ = λ reading.
     decimal c.args.packet.now.number ++ codes " " ++ decimal reading ++ codes " " ++ decimal (length c.args.packet.now.bytes.now) ++ codes " "
     ++ decimal c.args.packet.now.original ++ codes " " in
-    let begun : string_bytes c.push_record.new.line ≡ string_bytes c.clear.new.self ++ record_text c.args.packet.now.number (packet_shown c.args.packet.now) =
+    let begun : string_bytes c.push_record.new.line ≡ string_bytes c.clear.new.self ++ record_text c.args.head.now.form.nano c.args.packet.now.number (packet_shown c.args.packet.now) =
     subst (λ r. string_bytes c.push_record.new.line ≡ string_bytes c.clear.new.self ++ start r) c.reading.ensures c.in_ok-push_record.ensures in
     record {
       frame = c.in_ok-push_frame.ensures.frame;
