@@ -17,6 +17,9 @@ use am_base::{OpenError, Shelf};
 use std::alloc::Global;
 use std::marker::Model;
 
+#[cfg(test)]
+mod tests;
+
 /// Why a capture's file could not be read on.
 #[derive(Clone, Copy, Debug, PartialEq, Eq)]
 pub enum FileError {

@@ -14,6 +14,8 @@ mod head;
 mod held;
 mod record;
 mod refusal;
+#[cfg(test)]
+mod samples;
 mod seeking;
 
 pub use capture::{Capture, FileError};

@@ -95,8 +95,8 @@ fn feed_head(decoder: &mut Decoder, held: &mut Held, missing: usize) -> Result<(
 {
     let n = missing.min(held.len());
     match decoder.feed(&held.bytes()[..n]) {
-        Ok(n) => {
-            held.skip(n);
+        Ok(taken) => {
+            held.skip(taken);
             Ok(())
         }
         Err(error) => Err(error),

@@ -5,59 +5,8 @@ use super::*;
 use crate::frame::LinkKind;
 use crate::head::{file_head, record_head};
 use crate::record::Form;
+use crate::samples::{HEAD, add_record, file_of, seen_of};
 use std::test::Fail;
-
-// The file header of little-endian microseconds of raw IP packets, snapshot length 262,144.
-const HEAD: [u8; 24] = [
-    0xd4, 0xc3, 0xb2, 0xa1, 0x02, 0x00, 0x04, 0x00, 0x00, 0x00, 0x00, 0x00, 0x00, 0x00, 0x00, 0x00,
-    0x00, 0x00, 0x04, 0x00, 0x65, 0x00, 0x00, 0x00,
-];
-
-// What stands behind the seconds of a record of 48 bytes, up to the last byte but one: fraction 0, both lengths 48, and
-// a packet.
-const RECORD: [u8; 58] = [
-    0x00, 0x00, 0x00, 0x00, 0x30, 0x00, 0x00, 0x00, 0x30, 0x00, 0x00, 0x00, // fraction and lengths
-    0x60, 0x00, 0x00, 0x00, 0x00, 0x08, 0x00, 0x40, // version 6, payload length 8, hop by hop, hop limit 64
-    0x20, 0x01, 0x0d, 0xb8, 0x00, 0x01, 0x00, 0x00, 0x00, 0x00, 0x00, 0x00, 0x00, 0x00, 0x00, 0x01, // source
-    0x20, 0x01, 0x0d, 0xb8, 0x00, 0x02, 0x00, 0x00, 0x00, 0x00, 0x00, 0x00, 0x00, 0x00, 0x00, 0x01, // destination
-    0x3b, 0x00, 0x12, 0x04, 0x12, 0x34, // no next header, and the mark's first bytes
-];
-
-// The seconds of each record, and the last byte but one of its mark.
-const ROWS: [(u8, u8); 6] = [
-    (1, 0x54),
-    (2, 0x50),
-    (11, 0x5c),
-    (12, 0x58),
-    (13, 0x58),
-    (21, 0x54),
-];
-
-// A file of six records.
-fn file_of(alloc: Global) -> Result<Vec<u8>, AllocError> {
-    let mut file = Vec::new(alloc);
-    file.extend_from_slice(&HEAD)?;
-    for (seconds, mark) in ROWS {
-        file.extend_from_slice(&[seconds, 0, 0, 0])?;
-        file.extend_from_slice(&RECORD)?;
-        file.extend_from_slice(&[mark, 0])?;
-    }
-    Ok(file)
-}
-
-// What is seen of its records: number, seconds, fraction, original length, and the bytes.
-fn seen_of(alloc: Global) -> Result<Vec<u8>, AllocError> {
-    let mut seen = Vec::new(alloc);
-    let mut number: u8 = 0;
-    for (seconds, mark) in ROWS {
-        number = number.saturating_add(1);
-        seen.extend_from_slice(&[number, 0, 0, 0, 0, 0, 0, 0])?;
-        seen.extend_from_slice(&[seconds, 0, 0, 0, 0, 0, 0, 0, 48, 0, 0, 0])?;
-        seen.extend_from_slice(&RECORD[12..])?;
-        seen.extend_from_slice(&[mark, 0])?;
-    }
-    Ok(seen)
-}
 
 // One call of `feed`, and one of `take`. None where one failed.
 fn feed_once(decoder: &mut Decoder, piece: &[u8], seen: &mut Vec<u8>) -> Option<usize> {
@@ -77,14 +26,6 @@ fn feed_once(decoder: &mut Decoder, piece: &[u8], seen: &mut Vec<u8>) -> Option<
         return None;
     }
     Some(n)
-}
-
-fn add_record(record: &Record<'_>, seen: &mut Vec<u8>) -> Result<(), AllocError> {
-    seen.extend_from_slice(&record.number.to_le_bytes())?;
-    seen.extend_from_slice(&record.seconds.to_le_bytes())?;
-    seen.extend_from_slice(&record.fraction.to_le_bytes())?;
-    seen.extend_from_slice(&record.original.to_le_bytes())?;
-    seen.extend_from_slice(record.bytes)
 }
 
 // All bytes of a piece; whether they were taken.
@@ -216,6 +157,44 @@ fn refusal_of(alloc: Global, file: &[u8]) -> Option<CapError> {
         return Some(error);
     }
     decoder.finish().err()
+}
+
+// How many of the bytes behind a file header and a record header are taken for the record that says this length. None
+// where that is refused.
+fn taken_for(alloc: Global, captured: u32) -> Option<usize> {
+    let Ok(mut decoder) = Decoder::new(alloc) else {
+        return None;
+    };
+    let Ok(bytes) = zeros(alloc, 300_000) else {
+        return None;
+    };
+    let form = Form {
+        big: true,
+        nano: false,
+    };
+    let mut seen = Vec::new(alloc);
+    feed_once(
+        &mut decoder,
+        &file_head(form, LinkKind::Ethernet),
+        &mut seen,
+    )?;
+    feed_once(
+        &mut decoder,
+        &record_head(form, 1, 0, captured, 9),
+        &mut seen,
+    )?;
+    feed_once(&mut decoder, &bytes, &mut seen)
+}
+
+// So many bytes 0.
+fn zeros(alloc: Global, count: usize) -> Result<Vec<u8>, AllocError> {
+    vec![in alloc; 0; count]
+}
+
+#[test]
+fn takes_records_of_the_most_bytes(rt: HostRuntime) {
+    assert_eq!(rt; taken_for(rt.alloc(), 262_144), Some(262_144));
+    assert_eq!(rt; taken_for(rt.alloc(), 262_145), None);
 }
 
 // The file header with one byte changed.
