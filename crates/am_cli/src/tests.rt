@@ -5,6 +5,8 @@ use std::alloc::AllocError;
 use std::process::Abort;
 use std::test::Fail;
 
+mod check;
+
 // A packet that was seen: seconds, microseconds, and the four bytes of its mark.
 type Seen = (u32, u32, u32);
 
