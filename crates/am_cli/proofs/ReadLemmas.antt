@@ -6,9 +6,9 @@ use Rattle.am_base.specs.Shelves.{File, Told, OnTold, IsAtEnd, file_named}
 use Rattle.am_base.specs.Files.{IsPartRead}
 use Rattle.am_pcap.specs.Packets.{Packet, HoldsPackets}
 use Rattle.am_pcap.specs.Heads.{judged}
-use Rattle.am_pcap.specs.Captures.{Summary, HasSummary, IsCapture, IsRefusedAfter}
+use Rattle.am_pcap.specs.Captures.{Summary, HasSummary, HasRecords, IsCapture, IsRefusedAfter}
 use Rattle.am_pcap.specs.Shown.{packet_shown}
-use Rattle.am_pcap.specs.Readings.{Reading, HasGiven, GivesRecord, GivesEnd, GivesTooLong, GivesRefusal, Opened, RefusesOpen, IsCut, AreRefused, most_read}
+use Rattle.am_pcap.specs.Readings.{Reading, HasGiven, GivesRecord, GivesEnd, GivesFault, GivesTooLong, GivesRefusal, Opened, RefusesOpen, IsCut, AreRefused, most_read}
 use Rattle.am_pcap.specs.declared.refusal.CapError.{CapError}
 use Rattle.am_pcap.specs.declared.head.Head.{Head}
 use Rattle.am_pcap.specs.declared.record.Record.{Record}
@@ -128,6 +128,29 @@ begins-append bytes more h ps rest b =
       head = ap judged a ∙ b.head;
       records = subst (λ x. HoldsPackets h.form.big x ps (rest ++ more)) (sym d) (packets-append h.form.big (drop 24 bytes) ps rest more b.records);
     }
+
+records-parts :
+    (bytes : List ℕ) (ps : List Packet) (head : Option Head) (count : ℕ) (u : List ℕ) (taken : ℕ) (e : Option CapError) (h : Head)
+    → HasSummary bytes ps (record { head = head; count = count; unfinished = u; taken = taken; error = e }) → 24 ≤ length bytes
+    → judged (take 24 bytes) ≡ Ok h → HasRecords bytes ps u h e
+records-parts bytes ps None count u taken None h s whole is = absurd (omega (arith, whole, s.split.short))
+records-parts bytes ps None count u taken (Some e) h s whole is = absurd (cc (is, s.split.bad))
+records-parts bytes ps (Some k) count u taken e h s whole is =
+    let same : k ≡ h = cc (s.split.head, is) in subst (λ x. HasRecords bytes ps u x e) same s.split
+
+-- a read failed: behind the file header stand the records that were given, and then no other whole one
+pub reads-fault :
+    (before now after : Option Told) (name bytes : List ℕ) (c : Reading) (h : Head) (ps : List Packet)
+    → ReadsOn before now name bytes c h ps → (g : GivesFault c now after)
+    → (u : List ℕ) × (e : Option CapError) × HasRecords (bytes ++ g.more) ps u h e
+reads-fault before now after name bytes c h ps on g =
+    let w = g.all bytes ps on.given in
+    let first : Begins on.given.taken h ps c.decoded.summary.unfinished = begins-summary on.given.taken ps c.decoded.summary h on.given.summary on.head in
+    let more = begins-append on.given.taken (c.held ++ g.more) h ps c.decoded.summary.unfinished first in
+    let same : bytes ++ g.more ≡ on.given.taken ++ (c.held ++ g.more) = ap (λ x. x ++ g.more) on.given.split ∙ append_assoc on.given.taken c.held g.more in
+    let all : Begins (bytes ++ g.more) h ps (c.decoded.summary.unfinished ++ (c.held ++ g.more)) =
+    subst (λ x. Begins x h ps (c.decoded.summary.unfinished ++ (c.held ++ g.more))) (sym same) more in
+    (w.0.unfinished, w.0.error, records-parts (bytes ++ g.more) ps w.0.head w.0.count w.0.unfinished w.0.taken w.0.error h w.1 all.whole all.head)
 
 -- the named file is refused so, behind these packets
 pub record RefusesFile (t : Told) (name : List ℕ) (e : CapError) (ps : List Packet) : Type 0 where

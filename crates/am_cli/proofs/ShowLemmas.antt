@@ -2,9 +2,11 @@
 use Rattle.std.proofs.Common.{arith, refl, sym, ap, subst, ◌≡◌, ℕ, List, [], ◌∷◌, ◌++◌, length, take, Option, Some, None, Ok, inl, inr}
 use Rattle.std.proofs.Math.Seq.{take-length}
 use Rattle.am_base.specs.Shelves.{File, Told, OnTold, IsAbsent}
+use Rattle.std.specs.Io.KnownBytes.{append_known}
 use Rattle.am_pcap.specs.Packets.{Packet}
 use Rattle.am_pcap.specs.Heads.{judged}
 use Rattle.am_pcap.specs.Captures.{HasBadRecord}
+use Rattle.am_pcap.proofs.Shelved.{part-more}
 use Rattle.am_pcap.specs.Readings.{Reading, GivesEnd, GivesError, WhyNotOpened}
 use Rattle.am_pcap.specs.declared.refusal.CapError.{CapError}
 use Rattle.am_pcap.specs.declared.head.Head.{Head}
@@ -15,13 +17,13 @@ use Rattle.am_cli.specs.Commands.{Show}
 use Rattle.am_cli.specs.Commands.Command.{Showing}
 use Rattle.am_cli.specs.Lines.{AreLines}
 use Rattle.am_cli.specs.Runs.{IsStopOf}
-use Rattle.am_cli.specs.Show.{ShowRefusal, IsShowProduct, ShowsBefore, ShowsFront, ShowLeaves}
+use Rattle.am_cli.specs.Show.{ShowRefusal, IsShowProduct, ShowsBefore, ShowsFront, ShowLeaves, LeavesAtFault}
 use Rattle.am_cli.specs.Shown.{stop_of_file}
-use Rattle.am_cli.specs.Stops.{Refusal, refusal_status}
+use Rattle.am_cli.specs.Stops.{Refusal, refusal_status, stop_status}
 use Rattle.am_cli.specs.Stops.Refusal.{Missing, TooLong, BadCapture, HeadersCut, BadDomain}
 use Rattle.am_cli.specs.Stops.Stop.{Refused, NoMemory}
 use Rattle.am_cli.proofs.FileLemmas.{told_more, told_both, not-refused_in}
-use Rattle.am_cli.proofs.ReadLemmas.{ReadsOn, reads-end, reads-refused, reads-long, reads-begins, open-refused, begins-append, both-heads, one_file}
+use Rattle.am_cli.proofs.ReadLemmas.{ReadsOn, reads-end, reads-refused, reads-long, reads-begins, reads-fault, open-refused, begins-append, both-heads, one_file}
 
 -- the refusals of the file have one status
 pub show_refused_alike : (files : List File) (s : Show) (r q : Refusal) → ShowRefusal files s r → ShowRefusal files s q → refusal_status r ≡ refusal_status q
@@ -182,3 +184,26 @@ show_next_leaves before now after s bytes c h ps text (fault.Bad e) on lines w =
     (reads-refused before now after s.file bytes c h ps e on w)
     (reads-begins before now s.file bytes c h ps on)
 show_next_leaves before now after s bytes c h ps text fault.Memory on lines w = absurd w
+
+-- what was printed where the shelf failed
+pub show_open_fault :
+    (before after : Option Told) (old new : Option (List ℕ)) (s : Show) (e : FileError)
+    → WhyNotOpened before after s.file e → new ≡ append_known old [] → stop_status (stop_of_file s.file e) ≡ 5 → LeavesAtFault before after old new s
+show_open_fault before after old new s fault.Missing w none five = absurd (omega (arith, five))
+show_open_fault before after old new s fault.ReadFault w none five =
+    elim w [ inl closed ↦ ([], none, inl (closed, refl)) | inr f ↦ ([], none, inr (f.bytes, f.part, inl (f.few, refl))) ]
+show_open_fault before after old new s fault.TooLong w none five = absurd w
+show_open_fault before after old new s (fault.Bad e) w none five = absurd (omega (arith, five))
+show_open_fault before after old new s fault.Memory w none five = absurd (omega (arith, five))
+
+pub show_next_fault :
+    (before now after : Option Told) (old new : Option (List ℕ)) (s : Show) (bytes : List ℕ) (c : Reading) (h : Head) (ps : List Packet) (text : List ℕ) (e : FileError)
+    → ReadsOn before now s.file bytes c h ps → AreLines h 1 ps text → GivesError c now after e → new ≡ append_known old text
+    → stop_status (stop_of_file s.file e) ≡ 5 → LeavesAtFault before after old new s
+show_next_fault before now after old new s bytes c h ps text fault.Missing on lines w all five = absurd w
+show_next_fault before now after old new s bytes c h ps text fault.ReadFault on lines w all five =
+    let r = reads-fault before now after s.file bytes c h ps on w in
+    (text, all, inr (bytes ++ w.more, part-more before now after s.file bytes w.more on.part w.took, inr (h, ps, r.0, r.1, r.2, lines)))
+show_next_fault before now after old new s bytes c h ps text fault.TooLong on lines w all five = absurd (omega (arith, five))
+show_next_fault before now after old new s bytes c h ps text (fault.Bad e) on lines w all five = absurd (omega (arith, five))
+show_next_fault before now after old new s bytes c h ps text fault.Memory on lines w all five = absurd w

@@ -7,7 +7,7 @@ use Rattle.am_base.specs.Sinks.{AppendsFront}
 use Rattle.am_cli.specs.Commands.{Command, Says, IsNoCommand, file_names}
 use Rattle.am_cli.specs.Commands.Command.{Linking, Showing, Checking}
 use Rattle.am_cli.specs.Link.{LinkRefusal, IsLinkProduct}
-use Rattle.am_cli.specs.Show.{ShowRefusal, IsShowProduct, ShowLeaves}
+use Rattle.am_cli.specs.Show.{ShowRefusal, IsShowProduct, ShowLeaves, LeavesAtFault}
 use Rattle.am_cli.specs.Check.{CheckRefusal, IsCheckProduct}
 use Rattle.am_cli.specs.Stops.{Refusal, Stop, refused_name, refusal_status, stop_status, stop_line}
 use Rattle.am_cli.specs.Stops.Stop.{NoCommand, Refused, ReadFault, WriteFault, NoMemory}
@@ -37,6 +37,12 @@ abbrev pub Leaves : Option Told → Command → Stop → List ℕ → Type 0
 Leaves told (Linking l) stop printed = PrintsLast told (Linking l) stop printed
 Leaves told (Showing s) stop printed = ShowLeaves told s stop printed
 Leaves told (Checking c) stop printed = PrintsLast told (Checking c) stop printed
+
+-- what was printed where a read failed, of the command that prints before it has read all; of the others `Leaves` says that it is nothing
+abbrev pub FaultLeaves : Command → Option Told → Option Told → Option (List ℕ) → Option (List ℕ) → Type 0
+FaultLeaves (Linking l) before after old new = ⊤
+FaultLeaves (Showing s) before after old new = LeavesAtFault before after old new s
+FaultLeaves (Checking c) before after old new = ⊤
 
 -- a command may stop so: for one of its files, where they are told by its first refusal; because it can't write; or because memory runs out
 abbrev pub IsStopOf : Option Told → Command → Stop → Type 0
@@ -70,6 +76,10 @@ IsToldAs NoMemory said = said ≡ NoMemory
 abbrev pub LeavesOf : List (List ℕ) → Option Told → Stop → List ℕ → Type 0
 LeavesOf words told stop printed =
     (IsNoCommand words × (printed ≡ [])) ⊎ ((c : Command) × Says words c × Leaves told c stop printed)
+
+-- what was printed where a read failed, whatever command the words are
+abbrev pub LeavesOfFault : List (List ℕ) → Option Told → Option Told → Option (List ℕ) → Option (List ℕ) → Type 0
+LeavesOfFault words before after old new = (c : Command) → Says words c → FaultLeaves c before after old new
 
 -- the words are a command, and on a shelf that tells its files its product was printed, and nothing else
 abbrev pub Prints : List (List ℕ) → Option Told → Option (List ℕ) → Option (List ℕ) → Type 0

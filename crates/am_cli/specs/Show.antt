@@ -1,9 +1,11 @@
 -- What `show` prints, and which refusal of its file comes first.
 use Rattle.std.specs.Prelude.{◌≡◌, ◌⊎◌, ℕ, ◌<◌, ◌≤◌, List, [], length, take, Option, Some, None, Ok}
-use Rattle.am_base.specs.Shelves.{File, Told, OnTold, file_named}
+use Rattle.std.specs.Io.KnownBytes.{append_known}
+use Rattle.am_base.specs.Shelves.{File, Told, OnTold, Closes, file_named}
+use Rattle.am_base.specs.Files.{IsPartRead}
 use Rattle.am_pcap.specs.Packets.{Packet}
 use Rattle.am_pcap.specs.Heads.{judged}
-use Rattle.am_pcap.specs.Captures.{IsCapture}
+use Rattle.am_pcap.specs.Captures.{IsCapture, HasRecords}
 use Rattle.am_pcap.specs.Readings.{most_read}
 use Rattle.am_pcap.specs.declared.refusal.CapError.{CapError}
 use Rattle.am_pcap.specs.declared.head.Head.{Head}
@@ -68,3 +70,14 @@ ShowLeaves told s (Refused (BadDomain name e)) printed = ⊥
 ShowLeaves told s (ReadFault name) printed = OnTold told (λ t. ShowsFront t.files s printed)
 ShowLeaves told s WriteFault printed = OnTold told (λ t. ShowsFront t.files s printed)
 ShowLeaves told s NoMemory printed = OnTold told (λ t. ShowsFront t.files s printed)
+
+-- what is printed where these bytes of the file were read: nothing where they end inside the file header, else the line of each record that is whole in them
+abbrev pub ShowsRead : List ℕ → List ℕ → Type 0
+ShowsRead bytes printed =
+    ((length bytes < 24) × (printed ≡ []))
+    ⊎ ((h : Head) × (ps : List Packet) × (unfinished : List ℕ) × (e : Option CapError) × HasRecords bytes ps unfinished h e × AreLines h 1 ps printed)
+
+-- what was printed where the shelf failed: nothing where it could not open the file, else what is printed of the bytes before those that are left
+abbrev pub LeavesAtFault : Option Told → Option Told → Option (List ℕ) → Option (List ℕ) → Show → Type 0
+LeavesAtFault before after old new s =
+    (printed : List ℕ) × (new ≡ append_known old printed) × ((Closes before after × (printed ≡ [])) ⊎ ((bytes : List ℕ) × IsPartRead before after s.file bytes × ShowsRead bytes printed))

@@ -6,7 +6,7 @@ ghost use Rattle.am_base.specs.Shelves.{OnTold};
 ghost use Rattle.am_cli.specs.Commands.{IsNoCommand};
 ghost use Rattle.am_cli.specs.Stops as told;
 ghost use Rattle.am_cli.specs.Stops.{stop_status, stop_line};
-ghost use Rattle.am_cli.specs.Runs.{IsProduct, IsStopOf, Leaves, IsBorneOut, LeavesOf, Prints, IsStopped, Refuses, Completes, Tells, IsToldAs};
+ghost use Rattle.am_cli.specs.Runs.{IsProduct, IsStopOf, Leaves, FaultLeaves, IsBorneOut, LeavesOf, LeavesOfFault, Prints, IsStopped, Refuses, Completes, Tells, IsToldAs};
 ghost use Rattle.am_cli.specs.Shown.{command_shown, stop_shown};
 
 use crate::check::check;
@@ -43,6 +43,9 @@ pub fn run<S: Shelf, O: Sink, E: Sink>(
     // leaves, and its line was said.
     ensures stopped { result ≢ 0 → IsStopped (map string_bytes words.now) (S.told shelf.old) (O.written out.old) (O.written out.new) (E.written err.old) (E.written err.new) (E.faults err.old) (E.faults err.new) result }
 
+    // Where a read failed, `show` printed the lines of the records that were read whole.
+    ensures fault { result ≡ 5 → LeavesOfFault (map string_bytes words.now) (S.told shelf.old) (S.told shelf.new) (O.written out.old) (O.written out.new) }
+
     // A missing file, a read fault and a write fault have their counts as causes.
     ensures missing { result ≡ 4 → Rose (S.missed shelf.old) (S.missed shelf.new) }
     ensures read_fault { result ≡ 5 → Rose (S.faults shelf.old) (S.faults shelf.new) }
@@ -70,6 +73,7 @@ fn perform<'a, S: Shelf, O: Sink>(
     ensures product { OnOk result (Prints (map string_bytes words.now) (S.told shelf.old) (O.written out.old) (O.written out.new)) }
     ensures stopped { IfErr result (λ s. IsBorneOut (map string_bytes words.now) (S.told shelf.old) (stop_shown s)) }
     ensures leaves { IfErr result (λ s. (printed : List ℕ) × (O.written out.new ≡ append_known (O.written out.old) printed) × LeavesOf (map string_bytes words.now) (S.told shelf.old) (stop_shown s) printed) }
+    ensures fault { IfErr result (λ x. stop_status (stop_shown x) ≡ 5 → LeavesOfFault (map string_bytes words.now) (S.told shelf.old) (S.told shelf.new) (O.written out.old) (O.written out.new)) }
     ensures missing { IfErr result (λ s. stop_status (stop_shown s) ≡ 4 → Rose (S.missed shelf.old) (S.missed shelf.new)) }
     ensures read_fault { IfErr result (λ s. stop_status (stop_shown s) ≡ 5 → Rose (S.faults shelf.old) (S.faults shelf.new)) }
     ensures write_fault { IfErr result (λ s. stop_status (stop_shown s) ≡ 6 → Rose (O.faults out.old) (O.faults out.new)) }
@@ -90,6 +94,7 @@ fn perform_command<'a, S: Shelf, O: Sink>(
     ensures product { OnOk result (OnTold (S.told shelf.old) (λ t. (text : List ℕ) × IsProduct t.files (command_shown command.now) text × (O.written out.new ≡ append_known (O.written out.old) text))) }
     ensures stopped { IfErr result (λ s. IsStopOf (S.told shelf.old) (command_shown command.now) (stop_shown s)) }
     ensures leaves { IfErr result (λ s. (printed : List ℕ) × (O.written out.new ≡ append_known (O.written out.old) printed) × Leaves (S.told shelf.old) (command_shown command.now) (stop_shown s) printed) }
+    ensures fault { IfErr result (λ x. stop_status (stop_shown x) ≡ 5 → FaultLeaves (command_shown command.now) (S.told shelf.old) (S.told shelf.new) (O.written out.old) (O.written out.new)) }
     ensures missing { IfErr result (λ s. stop_status (stop_shown s) ≡ 4 → Rose (S.missed shelf.old) (S.missed shelf.new)) }
     ensures read_fault { IfErr result (λ s. stop_status (stop_shown s) ≡ 5 → Rose (S.faults shelf.old) (S.faults shelf.new)) }
     ensures write_fault { IfErr result (λ s. stop_status (stop_shown s) ≡ 6 → Rose (O.faults out.old) (O.faults out.new)) }

@@ -11,7 +11,7 @@ ghost use Rattle.am_pcap.specs.Shown.{packet_shown};
 ghost use Rattle.am_cli.specs.Commands.Command.{Showing};
 ghost use Rattle.am_cli.specs.Lines.{IsLine, header_text, ending_text, seen_text};
 ghost use Rattle.am_cli.specs.Stops.{stop_status};
-ghost use Rattle.am_cli.specs.Show.{IsShowProduct, ShowLeaves};
+ghost use Rattle.am_cli.specs.Show.{IsShowProduct, ShowLeaves, LeavesAtFault};
 ghost use Rattle.am_cli.specs.Showing.{AddsFrame, AddsPacket};
 ghost use Rattle.am_cli.specs.Runs.{IsStopOf};
 ghost use Rattle.am_cli.specs.Shown.{show_shown, stop_shown};
@@ -34,6 +34,7 @@ pub fn show<'a, S: Shelf, O: Sink>(
     ensures product { OnOk result (OnTold (S.told shelf.old) (λ t. (text : List ℕ) × IsShowProduct t.files (show_shown words.now) text × (O.written out.new ≡ append_known (O.written out.old) text))) }
     ensures stopped { IfErr result (λ s. IsStopOf (S.told shelf.old) (Showing (show_shown words.now)) (stop_shown s)) }
     ensures leaves { IfErr result (λ s. (printed : List ℕ) × (O.written out.new ≡ append_known (O.written out.old) printed) × ShowLeaves (S.told shelf.old) (show_shown words.now) (stop_shown s) printed) }
+    ensures fault { IfErr result (λ s. stop_status (stop_shown s) ≡ 5 → LeavesAtFault (S.told shelf.old) (S.told shelf.new) (O.written out.old) (O.written out.new) (show_shown words.now)) }
     ensures missing { IfErr result (λ s. stop_status (stop_shown s) ≡ 4 → Rose (S.missed shelf.old) (S.missed shelf.new)) }
     ensures read_fault { IfErr result (λ s. stop_status (stop_shown s) ≡ 5 → Rose (S.faults shelf.old) (S.faults shelf.new)) }
     ensures write_fault { IfErr result (λ s. stop_status (stop_shown s) ≡ 6 → Rose (O.faults out.old) (O.faults out.new)) }

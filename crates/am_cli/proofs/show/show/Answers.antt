@@ -1,13 +1,14 @@
 -- The records that were shown so far, and one more.
-use Rattle.std.proofs.Common.{arith, refl, sym, ap, subst, ◌+◌, ◌++◌, ◌∷◌, [], length, take, Err}
+use Rattle.std.proofs.Common.{arith, refl, sym, ap, subst, ◌∙◌, ◌+◌, ◌++◌, ◌∷◌, [], length, take, Err}
 use Rattle.am_pcap.specs.Shown.{packet_shown}
 use Rattle.am_cli.specs.Commands.Command.{Showing}
 use Rattle.am_cli.specs.Runs.{IsStopOf}
+use Rattle.am_cli.specs.Stops.{stop_status}
 use Rattle.am_cli.specs.Show.{ShowLeaves}
 use Rattle.am_cli.specs.Shown.{show_shown}
 use Rattle.am_cli.proofs.FileLemmas.{told_more}
 use Rattle.am_cli.proofs.ReadLemmas.{reads-start, reads-more, reads-counted, gave-record}
-use Rattle.am_cli.proofs.ShowLemmas.{reads_all, reads_front, reads_product, show_open_stops, show_open_leaves, show_next_stops, show_next_leaves}
+use Rattle.am_cli.proofs.ShowLemmas.{reads_all, reads_front, reads_product, show_open_stops, show_open_leaves, show_next_stops, show_next_leaves, show_open_fault, show_next_fault}
 use Rattle.am_cli.proofs.ShowSteps.{lines_more, appended_twice, appended_front, appended_nothing}
 use Rattle.am_cli.proofs.show.show.Goals as goal
 
@@ -110,3 +111,14 @@ records-preserved g c =
       missed_stay = omega (arith, c.records.invariant.missed_stay, c.in-Ok-Some.ensures.missed_stay);
       out_faults_stay = omega (arith, c.records.invariant.out_faults_stay, c.in-Ok-put.ensures.faults_stay);
     }
+
+pub returns-in-Err-clause-fault : goal.returns-in-Err-clause-fault
+returns-in-Err-clause-fault g c = λ five.
+    show_open_fault (g.S.Shelf.told c.args.shelf.now) (g.S.Shelf.told c.open.new.shelf) (g.O.Sink.written c.args.out.now) (g.O.Sink.written c.args.out.now) (show_shown c.args.words.now)
+    c.in-Err.error c.in-Err.ensures.refused (appended_nothing (g.O.Sink.written c.args.out.now)) (ap stop_status (sym c.file_stop.ensures) ∙ five)
+
+pub returns-in-Err-next-clause-fault : goal.returns-in-Err-next-clause-fault
+returns-in-Err-next-clause-fault g c = λ five.
+    show_next_fault (g.S.Shelf.told c.args.shelf.now) (g.S.Shelf.told c.records.shelf) (g.S.Shelf.told c.next.new.shelf) (g.O.Sink.written c.args.out.now) (g.O.Sink.written c.records.out)
+    (show_shown c.args.words.now) c.records.invariant.bytes c.records.capture c.head-head.result c.records.invariant.packets c.records.invariant.text c.in-Err-next.error
+    c.records.invariant.on c.records.invariant.lines c.in-Err-next.ensures.refused c.records.invariant.appended (ap stop_status (sym c.file_stop-in-Err-next.ensures) ∙ five)
