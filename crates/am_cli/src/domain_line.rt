@@ -129,12 +129,7 @@ fn push_many(line: &mut String, part: Part, count: u32) -> Result<(), AllocError
 }
 
 // Adds which item repeats which.
-fn push_twice(
-    line: &mut String,
-    what: Repeated,
-    first: u32,
-    second: u32,
-) -> Result<(), AllocError>
+fn push_twice(line: &mut String, what: Repeated, first: u32, second: u32) -> Result<(), AllocError>
     ensures { OnOk result (string_bytes line.new ≡ string_bytes line.old ++ (twice_text what second ++ codes " repeats " ++ twice_text what first)) }
 {
     push_repeated(line, what, second)?;

@@ -12,6 +12,8 @@ mod run;
 mod show;
 mod stop;
 mod table;
+#[cfg(test)]
+mod tests;
 mod words;
 
 use am_base::{DiskShelf, StdSink};

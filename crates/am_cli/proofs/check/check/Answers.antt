@@ -31,6 +31,6 @@ returns-clause-leaves g c =
       told_more (g.S.Shelf.told c.args.shelf.now) (λ t product. (c.as_bytes.result.now, product, c.in-Err-put.ensures.front.0, refl))
           (check_prints (g.S.Shelf.told c.args.shelf.now) (check_shown c.args.words.now) c.in-Ok.bytes.items read.0 c.in-Ok-read_domain.domain c.as_bytes.result.now
           c.in-Ok.ensures.bytes (omega (arith, c.in-Ok.ensures.bound)) (subst (λ x. IsDocument x read.0) c.deref.ensures.value read.1) read.2
-    (λ k f doc r. c.in-Ok-read_domain.ensures.refused k f (subst (λ x. IsDocument x k) (sym c.deref.ensures.value) doc) r)
+          (λ k f doc r. c.in-Ok-read_domain.ensures.refused k f (subst (λ x. IsDocument x k) (sym c.deref.ensures.value) doc) r)
           (subst (λ x. IsSummary c.in-Ok-read_domain.domain x) (sym c.as_bytes.ensures.value) c.in-Ok-summary.ensures)),
     )
