@@ -206,7 +206,7 @@ for file in *.toml; do
     fi
 done
 alone=$(for file in *; do echo "${file%.*}"; done | LC_ALL=C sort | uniq -c | awk '$1 != 2 { print $2 }')
-if [[ -z $alone ]]; then tally 'names of the domain files' yes; else tally 'names of the domain files' no "$alone"; fi
+if [[ -z $alone ]]; then tally 'names of the domain files' yes; else tally 'names of the domain files' no "${alone//$'\n'/ }"; fi
 
 # Files that aren't there, or can't be read.
 cd -- "$here/bad" || exit 1
