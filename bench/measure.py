@@ -1,12 +1,13 @@
 #!/usr/bin/env python3
-"""Makes pairs of captures, holds what a program prints of them against what is right, and measures it.
+"""Makes pairs of captures and a domain file, holds what a program prints of them against what is right, and measures it.
 
-    measure.py PROGRAM FOLDER [PAIR..]
+    measure.py PROGRAM FOLDER NETWORK [PAIR..]
 
 FOLDER has the built programs `captures` and `spawn`, and gets a folder for each pair, of which the big files are removed
-once it is measured. A pair is measured only where every table is right. All output goes to /dev/null while it is measured.
-The files were just written and read, so they come from memory. Runs take turns, and the least time of each counts, since
-whatever else the machine does can only add to it. The status is 0 where everything that was printed is right.
+once it is measured. NETWORK is the script that writes domain files, and `domain` names the one beside the pairs. A pair is
+measured only where every table is right, and the domain file where its summary is. All output goes to /dev/null while it is
+measured. The files were just written and read, so they come from memory. Runs take turns, and the least time of each counts,
+since whatever else the machine does can only add to it. The status is 0 where everything that was printed is right.
 """
 import os
 import platform
@@ -41,10 +42,16 @@ PAIRS = [
     ),
 ]
 
+# The domain of as many nodes, links and flows as there may be, and how many nanoseconds `check` of it should take at most.
+DOMAIN = "domain"
+MOST = ["128", "1024", "1024"]
+DOMAIN_ROUNDS = 41
+DOMAIN_TIME = 1_000_000_000
+
 
 @dataclass
 class Runs:
-    """The runs of one program over a pair: the least time, in nanoseconds, and the greatest peak, in bytes."""
+    """The runs of one program over the same files: the least time, in nanoseconds, and the greatest peak, in bytes."""
 
     took: int = 0
     peak: int = 0
@@ -209,6 +216,48 @@ class Measured:
         return "| " + " | ".join(cell.strip() for cell in cells) + " |"
 
 
+class MeasuredDomain:
+    """The greatest domain, with its file, and the runs over it."""
+
+    def __init__(self, bench, network):
+        self.bench, self.network = bench, os.path.abspath(network)
+        self.folder = os.path.join(bench.folder, DOMAIN)
+        self.cat, self.check = Runs(), Runs()
+
+    def make(self):
+        os.makedirs(self.folder, exist_ok=True)
+        words = [sys.executable, self.network, "domain.toml", "domain.txt", *MOST]
+        if subprocess.run(words, cwd=self.folder).returncode != 0:
+            sys.exit("bench: the domain file can't be made")
+
+    def check_words(self):
+        return [self.bench.program, "check", "domain.toml"]
+
+    def is_right(self):
+        """Whether the program prints what the script worked out."""
+        printed = os.path.join(self.folder, "printed")
+        self.bench.run(self.check_words(), self.folder, printed)
+        right = same(printed, os.path.join(self.folder, "domain.txt"))
+        print(f"  summary: {'right' if right else 'wrong'}")
+        return right
+
+    def measure(self):
+        for _ in range(DOMAIN_ROUNDS):
+            self.cat.add(*self.bench.run([self.bench.cat, "domain.toml"], self.folder))
+            self.check.add(*self.bench.run(self.check_words(), self.folder))
+
+    def tell(self):
+        size = os.path.getsize(os.path.join(self.folder, "domain.toml"))
+        print(f"  cat of {size:,} bytes:  {ms(self.cat)}")
+        print(f"  check:                  {ms(self.check)} (target: below {DOMAIN_TIME // 10**9} s: {met(self.check.took < DOMAIN_TIME)})")
+        print(f"  peak memory of check:   {mb(self.check)}")
+
+    def row(self, about):
+        """The row of the domain's table in README.md."""
+        cells = [*about, ms(self.cat), ms(self.check), mb(self.check)]
+        return "| " + " | ".join(cell.strip() for cell in cells) + " |"
+
+
 def ms(runs):
     return f"{runs.took / 1e6:7.1f} ms"
 
@@ -240,25 +289,33 @@ def tell_memory(measured):
         print(f"peak memory of link for ten times the records: {more / 1e6:+.2f} MB (target: the same: {met(more <= SAME_BYTES)})")
 
 
-def main(program, folder, *names):
-    known = [pair.name for pair in PAIRS]
+def judge(each):
+    """Makes the files, and measures what the program takes over them where all that it prints is right."""
+    each.make()
+    if not each.is_right():
+        return False
+    each.measure()
+    each.tell()
+    return True
+
+
+def main(program, folder, network, *names):
+    known = [*(pair.name for pair in PAIRS), DOMAIN]
     for name in names:
         if name not in known:
-            sys.exit(f"bench: there is no pair '{name}'; there are: {' '.join(known)}")
+            sys.exit(f"bench: there is no '{name}'; there are: {' '.join(known)}")
+    names = names or known
     bench = Bench(program, folder)
-    if not bench.tcpdump:
+    if not bench.tcpdump and list(names) != [DOMAIN]:
         print("tcpdump: skipped, since none is installed that has --count")
     measured, wrong = [], 0
     for pair in PAIRS:
-        if names and pair.name not in names:
+        if pair.name not in names:
             continue
         print(f"{pair.name}: {pair.what}", flush=True)
         each = Measured(bench, pair)
-        each.make()
         try:
-            if each.is_right():
-                each.measure()
-                each.tell()
+            if judge(each):
                 measured.append(each)
             else:
                 wrong += 1
@@ -266,6 +323,13 @@ def main(program, folder, *names):
             each.remove()
         sys.stdout.flush()
     tell_memory(measured)
+    if DOMAIN in names:
+        print(f"{DOMAIN}: {MOST[0]} nodes, {int(MOST[1]):,} links, {int(MOST[2]):,} flows", flush=True)
+        each = MeasuredDomain(bench, network)
+        if judge(each):
+            measured.append(each)
+        else:
+            wrong += 1
     if measured:
         print("rows for bench/README.md:")
         words = about()

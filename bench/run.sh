@@ -1,7 +1,8 @@
 #!/usr/bin/env bash
 # Measures `link` and `show` over big captures: first that what they print is right, then their times beside those of `cat`
-# and `tcpdump` over the same files, and their peak memory. The words name pairs of captures; without any all are measured.
-# Status 0 where the tables are right, whether or not a target is met.
+# and `tcpdump` over the same files, and their peak memory; and `check` over the greatest domain, in the same way. The words
+# name pairs of captures, or are `domain`; without any all are measured. Status 0 where all that was printed is right, whether
+# or not a target is met.
 set -u
 
 here=$(dirname -- "$(readlink -f -- "${BASH_SOURCE[0]}")")
@@ -27,4 +28,4 @@ if [[ $got != 2 ]]; then
     exit 1
 fi
 
-exec python3 "$here/measure.py" "$top/crates/am_cli/out/am_cli" "$out" "$@"
+exec python3 "$here/measure.py" "$top/crates/am_cli/out/am_cli" "$out" "$top/examples/network.py" "$@"

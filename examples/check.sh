@@ -69,10 +69,10 @@ if [[ $got != 2 ]]; then
     exit 1
 fi
 
-# The files are those that the script beside them writes, but for the domain files.
+# The files are those that the script beside them writes, but for the domain files and what `check` prints of them.
 python3 "$here/make.py" "$scratch/made"
 (cd -- "$scratch/made" && find . -type f | LC_ALL=C sort) >"$scratch/made.list"
-(cd -- "$here" && find ./two ./chains ./forms ./mixed ./bad -type f ! -name README.md ! -name '*.toml' | LC_ALL=C sort) >"$scratch/kept.list"
+(cd -- "$here" && find ./two ./chains ./forms ./mixed ./bad -type f ! -name README.md ! -name '*.toml' ! -name '*.check' | LC_ALL=C sort) >"$scratch/kept.list"
 if cmp -s "$scratch/made.list" "$scratch/kept.list"; then tally 'names of the example files' yes; else tally 'names of the example files' no; fi
 while IFS= read -r name; do
     if cmp -s -- "$scratch/made/$name" "$here/$name"; then tally "bytes of $name" yes; else tally "bytes of $name" no; fi
@@ -154,6 +154,19 @@ refuses 'show, a name of 256 bytes' show "a$long"
 refuses 'show, a name with a line feed' show $'u\n.pcap'
 refuses 'show, a name with U+001F' show $'u\x1f.pcap'
 refuses 'show, a name with U+007F' show $'u\x7f.pcap'
+for words in check 'check two.toml two.toml' 'check 1 two.toml' 'Check two.toml' 'checks two.toml' 'two.toml check'; do
+    read -ra split <<<"$words"
+    refuses "'$words'" "${split[@]}"
+done
+refuses 'check, an empty name' check ''
+refuses 'check, a word behind the name' check two.toml ''
+refuses 'check, a name of 256 bytes' check "a$long"
+refuses 'check, a name with a line feed' check $'two\n.toml'
+refuses 'check, a name with U+001F' check $'two\x1f.toml'
+refuses 'check, a name with U+007F' check $'two\x7f.toml'
+expect 'check, a word that is no text' 2 '' '' check $'two\xff.toml'
+expect 'check, a name of 255 bytes' 4 '' "altmark: $long: missing" check "$long"
+expect 'check, a name that begins with a dash' 4 '' 'altmark: --help: missing' check --help
 expect 'show, a word that is no text' 2 '' '' show $'u\xff.pcap'
 expect 'show, a name of 255 bytes' 4 '' "altmark: $long: missing" show "$long"
 expect 'show, a name that begins with a dash' 4 '' 'altmark: --help: missing' show --help
@@ -178,7 +191,30 @@ for file in *.pcap; do
     expect_file "show bad/$file" "$([[ -n $line ]] && echo 3 || echo 0)" "$scratch/printed" "$line" show "$file"
 done
 
+# What `check` prints of the two domains, and of each file of domains/: beside it stands what is printed (NAME.out), or the
+# line that refuses it (NAME.line).
+cd -- "$top" || exit 1
+expect_file 'check, from the top' 0 "$here/two/two.check" '' check examples/two/two.toml
+cd -- "$here/domains" || exit 1
+expect_file 'check two.toml' 0 ../two/two.check '' check ../two/two.toml
+expect_file 'check twelve.toml' 0 ../twelve/twelve.check '' check ../twelve/twelve.toml
+for file in *.toml; do
+    if [[ -e ${file%.toml}.line ]]; then
+        expect "check domains/$file" 3 '' "$(<"${file%.toml}.line")" check "$file"
+    else
+        expect_file "check domains/$file" 0 "${file%.toml}.out" '' check "$file"
+    fi
+done
+alone=$(for file in *; do echo "${file%.*}"; done | LC_ALL=C sort | uniq -c | awk '$1 != 2 { print $2 }')
+if [[ -z $alone ]]; then tally 'names of the domain files' yes; else tally 'names of the domain files' no "${alone//$'\n'/ }"; fi
+
 # Files that aren't there, or can't be read.
+cd -- "$here/bad" || exit 1
+expect 'check, missing' 4 '' 'altmark: missing.toml: missing' check missing.toml
+expect 'check, in a folder that is missing' 4 '' 'altmark: none/two.toml: missing' check none/two.toml
+expect 'check, a folder' 5 '' 'altmark: ../two: read fault' check ../two
+expect 'check, a file as a folder' 5 '' 'altmark: ../two/two.toml/a: read fault' check ../two/two.toml/a
+expect 'check, a capture' 3 '' 'altmark: domain: not TOML' check "$good"
 expect 'show, missing' 4 '' 'altmark: missing.pcap: missing' show missing.pcap
 expect 'show, in a folder that is missing' 4 '' 'altmark: none/u.pcap: missing' show none/u.pcap
 expect 'show, a folder' 5 '' 'altmark: ../two: read fault' show ../two
@@ -231,38 +267,105 @@ expect_file 'show, records of many lengths' 0 lengths.txt '' show lengths.pcap
 expect 'show, zeros' 3 '' 'altmark: zeros.pcap: bad magic' show zeros.pcap
 expect 'zeros' 3 '' 'altmark: zeros.pcap: bad magic' link 10000000000 0 74565 zeros.pcap missing.pcap
 
-# A capture that comes through a pipe, so many bytes at a time.
-for piece in 1 7 100; do
+# Domain files that are made here, since they aren't small. One has as many nodes, links and flows as there may be, and as
+# many cells. The others have more, or one item that isn't like the rest.
+network() { python3 "$here/network.py" "$1.toml" "$1.out" "$2" "$3" "$4"; }
+network most 128 1024 1024
+network nodes 129 1025 1025
+network links 128 1025 1025
+network flows 128 1024 1025
+sed 's/^block_ns = .*/block_ns = 10000000001/' nodes.toml >nodes-of-odd.toml
+sed 's/^name = "flow-.*/name = "flow"/' flows.toml >flows-of-one-name.toml
+sed 's/^name = "flow-.*/name = "flow"/' most.toml >one-name.toml
+sed 's/^name = "flow-1023"/name = "flow-0"/' most.toml >flow-name.toml
+sed 's/^id = 1044483$/id = 0/' most.toml >flow-id.toml
+sed 's/^name = "p127"/name = "p0"/' most.toml >node-name.toml
+sed '$ s/.*/to = "p128"/' most.toml >link-end.toml
+{ head -n -2 most.toml; printf 'from = "p0"\nto = "p16"\n'; } >link-twice.toml
+sed 's/^block_ns = .*/block_ns = 5000000000/' most.toml >cells.toml
+expect_file 'check, as many of each as there may be' 0 most.out '' check most.toml
+while IFS=: read -r file line; do
+    expect "check, $file of many" 3 '' "altmark: domain: $line" check "$file.toml"
+done <<'END'
+nodes:too many nodes: 129
+links:too many links: 1025
+flows:too many flows: 1025
+nodes-of-odd:block is odd
+flows-of-one-name:too many flows: 1025
+one-name:flow[1].name repeats flow[0].name
+flow-name:flow[1023].name repeats flow[0].name
+flow-id:flow[1023].id repeats flow[0].id
+node-name:node[127].name repeats node[0].name
+link-end:link[1023].to is no node
+link-twice:link[1023] repeats link[0]
+cells:too many cells: 65536
+END
+
+# Domain files of as many bytes as there may be, and of one more, which is refused whatever it says.
+python3 - "$here/two/two.toml" <<'END'
+import sys
+two = open(sys.argv[1], "rb").read()
+
+def write(name, length, end=b"\n"):
+    open(name, "wb").write(two + b"#" * (length - len(two) - len(end)) + end)
+
+write("bytes.toml", 1048576)
+write("bytes-no-toml.toml", 1048576, b"\n[")
+write("bytes-and-one.toml", 1048577)
+write("bytes-and-one-no-toml.toml", 1048577, b"\n[")
+END
+expect_file 'check, a file of 1048576 bytes' 0 "$here/two/two.check" '' check bytes.toml
+expect 'check, a file of 1048576 bytes, no TOML' 3 '' 'altmark: domain: not TOML' check bytes-no-toml.toml
+expect 'check, a file of 1048577 bytes' 3 '' 'altmark: bytes-and-one.toml: too long' check bytes-and-one.toml
+expect 'check, a file of 1048577 bytes, no TOML' 3 '' 'altmark: bytes-and-one-no-toml.toml: too long' check bytes-and-one-no-toml.toml
+expect 'check, a file of more than 16 MiB' 3 '' 'altmark: many.pcap: too long' check many.pcap
+expect 'check, zeros' 3 '' 'altmark: domain: not TOML' check zeros.pcap
+
+# A capture, and a domain file, that come through a pipe, so many bytes at a time.
+# through_pipe BYTES FILE COMMAND OUTPUT
+through_pipe() {
     mkfifo pipe
-    timeout 20 python3 - $piece "${two[0]}" <<'END' &
+    timeout 20 python3 - "$1" "$2" <<'END' &
 import sys
 piece, source = int(sys.argv[1]), open(sys.argv[2], "rb").read()
 with open("pipe", "wb", buffering=0) as pipe:
     for at in range(0, len(source), piece):
         pipe.write(source[at : at + piece])
 END
-    expect_file "show, a pipe of $piece bytes at a time" 0 "$here/two/u.txt" '' show pipe
+    expect_file "$3, a pipe of $1 bytes at a time" 0 "$4" '' "$3" pipe
     wait
     rm -f pipe
+}
+for piece in 1 7 100; do
+    through_pipe $piece "${two[0]}" show "$here/two/u.txt"
+    through_pipe $piece "$here/two/two.toml" check "$here/two/two.check"
 done
+through_pipe 1000 most.toml check most.out
 
 # Streams that can't be written.
 if [[ -c /dev/full && -w /dev/full ]]; then
     "$altmark" link 10000000000 0 74565 "${two[@]}" </dev/null >/dev/full 2>stderr
     got=$?
     if [[ $got == 6 && $(<stderr) == 'altmark: write fault' ]]; then tally 'output to a full device' yes; else tally 'output to a full device' no "status $got"; fi
-    # `show` writes the line of a record before it looks at the next, so a full device comes before what is wrong further on.
-    # NAME STATUS LINE FILE, where LINE is all that standard error has.
-    show_to_full() {
-        "$altmark" show "$4" </dev/null >/dev/full 2>stderr
+    # to_full NAME STATUS LINE WORD.., where LINE is all that standard error has.
+    to_full() {
+        local name=$1 status=$2 line=$3
+        shift 3
+        "$altmark" "$@" </dev/null >/dev/full 2>stderr
         got=$?
-        if [[ $got == "$2" && $(<stderr) == "$3" ]]; then tally "$1" yes; else tally "$1" no "status $got, '$(head -c 200 stderr)'"; fi
+        if [[ $got == "$status" && $(<stderr) == "$line" ]]; then tally "$name" yes; else tally "$name" no "status $got, '$(head -c 200 stderr)'"; fi
     }
-    show_to_full 'show to a full device' 6 'altmark: write fault' "$here/chains/chains.pcap"
-    show_to_full 'show to a full device, refused at record 2' 6 'altmark: write fault' "$here/bad/record-too-long.pcap"
-    show_to_full 'show to a full device, refused at the file header' 3 'altmark: zeros.pcap: bad magic' zeros.pcap
-    show_to_full 'show to a full device, refused at record 1' 3 'altmark: record-of-more.pcap: record 1 is too long: 262145' record-of-more.pcap
-    show_to_full 'show to a full device, no records' 0 '' "$scratch/head.pcap"
+    # `show` writes the line of a record before it looks at the next, so a full device comes before what is wrong further on.
+    to_full 'show to a full device' 6 'altmark: write fault' show "$here/chains/chains.pcap"
+    to_full 'show to a full device, refused at record 2' 6 'altmark: write fault' show "$here/bad/record-too-long.pcap"
+    to_full 'show to a full device, refused at the file header' 3 'altmark: zeros.pcap: bad magic' show zeros.pcap
+    to_full 'show to a full device, refused at record 1' 3 'altmark: record-of-more.pcap: record 1 is too long: 262145' show record-of-more.pcap
+    to_full 'show to a full device, no records' 0 '' show "$scratch/head.pcap"
+    # `check` writes nothing before the domain was accepted, so what is wrong with it comes before a full device.
+    to_full 'check to a full device' 6 'altmark: write fault' check "$here/two/two.toml"
+    to_full 'check to a full device, as many of each as there may be' 6 'altmark: write fault' check most.toml
+    to_full 'check to a full device, refused' 3 'altmark: domain: too many cells: 65536' check cells.toml
+    to_full 'check to a full device, missing' 4 'altmark: missing.toml: missing' check missing.toml
     "$altmark" </dev/null >stdout 2>/dev/full
     got=$?
     if [[ $got == 2 && ! -s stdout ]]; then tally 'no words, with a full standard error' yes; else tally 'no words, with a full standard error' no "status $got"; fi
@@ -282,6 +385,9 @@ if [[ $got == 3 ]] && head -n 2 "$here/two/u.txt" | cmp -s - stdout; then tally 
 "$altmark" link 10000000000 0 74565 missing.pcap "${two[1]}" </dev/null >stdout 2>&-
 got=$?
 if [[ $got == 4 && ! -s stdout ]]; then tally 'a missing file, with standard error closed' yes; else tally 'a missing file, with standard error closed' no "status $got"; fi
+"$altmark" check cells.toml </dev/null >stdout 2>&-
+got=$?
+if [[ $got == 3 && ! -s stdout ]]; then tally 'check, refused, with standard error closed' yes; else tally 'check, refused, with standard error closed' no "status $got"; fi
 
 # Captures that other tools wrote, where these are installed: the records of an example in a file of their making.
 have() {
