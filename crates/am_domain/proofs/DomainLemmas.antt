@@ -1,5 +1,5 @@
 -- What a file's parts give of the domain that is made of them.
-use Rattle.std.proofs.Common.{◌≡◌, ◌≢◌, ℕ, ◌-◌, ◌*◌, ◌<◌, ◌≤◌, List, [], ◌∷◌, length, get_or, zero, suc, Option, subst, sym, ap, ◌∙◌, inl, inr, arith}
+use Rattle.std.proofs.Common.{◌≡◌, ◌≢◌, ℕ, ◌-◌, ◌*◌, ◌<◌, ◌≤◌, List, [], ◌∷◌, length, get_or, zero, suc, Option, subst, sym, ap, ◌∙◌, inl, inr, arith, ◌↔◌}
 use Rattle.std.proofs.lemmas.Bool.{cases_order}
 use Rattle.std.proofs.lemmas.Slice.Zip.{AllZip-long}
 use Rattle.std.specs.List.{AllZip}
@@ -10,7 +10,7 @@ use Rattle.am_domain.specs.Texts.{IsName, IsFileName, IsWorkersAt}
 use Rattle.am_domain.specs.Tables.{SaysFlow, SaysNode}
 use Rattle.am_domain.specs.Entries.{IsTableOf}
 use Rattle.am_domain.specs.Fields.{FieldsValue, Says}
-use Rattle.am_domain.specs.Network.{IsNumberOf, Joins, SameEnds, HasLink}
+use Rattle.am_domain.specs.Network.{IsNumberOf, Joins, SameEnds, HasLink, IsFirstBlock, IsEndBlock, IsReported}
 use Rattle.am_domain.specs.Rules.{Each, AreDistinct, EndsDiffer, SameNodeName}
 use Rattle.am_domain.specs.Domains.{DomainValue, SameNodes, IsLinked, IsMadeOf, IsLawful}
 use Rattle.am_domain.specs.declared.link.Edge.{Edge}
@@ -92,6 +92,14 @@ module _ (nodes : List NodeValue) (links : List LinkValue) (edges : List Edge) (
             ];
       }
 
+-- the blocks that begin and end within each span are those that each span covers
+covered_at_each : (times : Times) (nodes : List NodeValue) (edges : List Edge) (first end : ℕ) → IsFirstBlock times nodes edges first → IsEndBlock times nodes edges end
+    → (n : ℕ) → ((first ≤ n) × (n < end)) ↔ IsReported times nodes edges n
+covered_at_each times nodes edges first end starts ends n = (
+  λ h k d within reading inside. ((starts n).0 h.0 k d within reading inside, (ends n).0 h.1 k d within reading inside),
+  λ all. ((starts n).1 (λ k d within reading inside. (all k d within reading inside).0), (ends n).1 (λ k d within reading inside. (all k d within reading inside).1)),
+)
+
 -- what is made of a file is lawful
 pub lawful : (ms : Members) (f : FieldsValue) (d : DomainValue) → Says ms f → IsMadeOf f d → d.first < d.end → length d.flows * (d.end - d.first) ≤ 32768 → IsLawful d
 lawful ms f d says made some few =
@@ -115,6 +123,7 @@ lawful ms f d says made some few =
       ends_differ = numbers_differ f.nodes f.links d.links made.laid_out.joined kept.1.1.1.1.1.1.1.1.0;
       links_differ = pairs_differ f.nodes f.links d.links made.laid_out.joined kept.1.1.1.1.1.1.1.1.1.0;
       nodes_linked = rw made.nodes (linked f.nodes f.links d.links made.laid_out.joined kept.1.1.1.1.1.1.0 kept.1.1.1.1.1.1.1.1.1.1.0);
+      reported = covered_at_each d.times d.nodes d.links d.first d.end (rw (made.times, made.nodes) made.laid_out.starts) (rw (made.times, made.nodes) made.laid_out.ends);
       some_block = some;
       few_cells = few;
       starts = rw (made.times, made.nodes) made.laid_out.starts;

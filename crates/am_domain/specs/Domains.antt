@@ -1,12 +1,12 @@
 -- The domain of a file's bytes, or why they have none.
-use Rattle.std.specs.Prelude.{◌≡◌, ◌≢◌, ℕ, ◌-◌, ◌*◌, ◌<◌, ◌≤◌, ◌⊎◌, List, length, slice_index_or, IsUtf8, Some, Result, Err}
+use Rattle.std.specs.Prelude.{◌≡◌, ◌≢◌, ℕ, ◌-◌, ◌*◌, ◌<◌, ◌≤◌, ◌⊎◌, List, length, slice_index_or, IsUtf8, Some, Result, Err, ◌↔◌}
 use Rattle.toml.specs.Data.{Members}
 use Rattle.toml.specs.Parse.{parse_document}
 use Rattle.am_clock.specs.Times.{Times, IsTiming}
 use Rattle.am_ip6.specs.declared.marks.Place.{Place as Kind}
 use Rattle.am_domain.specs.Values.{FlowValue, NodeValue}
 use Rattle.am_domain.specs.Texts.{IsName, IsFileName}
-use Rattle.am_domain.specs.Network.{IsFirstBlock, IsEndBlock}
+use Rattle.am_domain.specs.Network.{IsFirstBlock, IsEndBlock, IsReported}
 use Rattle.am_domain.specs.Fields.{FieldsValue, Says, IsBadField}
 use Rattle.am_domain.specs.Rules.{Each, AreDistinct, SameFlowName, SameFlowId, SameNodeName, KeepsFirst, IsLaidOut, IsFirstBroken}
 use Rattle.am_domain.specs.declared.link.Edge.{Edge}
@@ -59,7 +59,8 @@ pub record IsLawful (d : DomainValue) : Type 0 where
   pub ends_differ : Each (λ e. e.from ≢ e.to) d.links
   pub links_differ : AreDistinct SameNodes d.links
   pub nodes_linked : (node : ℕ) → node < length d.nodes → IsLinked d.links node
-  -- some block is reported, and not too many for the flows; they are those that every node's capture covers
+  -- the reported blocks are those that are covered at every node; there is one, and they are not too many for the flows
+  pub reported : (block : ℕ) → ((d.first ≤ block) × (block < d.end)) ↔ IsReported d.times d.nodes d.links block
   pub some_block : d.first < d.end
   pub few_cells : length d.flows * (d.end - d.first) ≤ 32768
   pub starts : IsFirstBlock d.times d.nodes d.links d.first

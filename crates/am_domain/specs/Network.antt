@@ -2,7 +2,7 @@
 use Rattle.std.specs.Prelude.{◌≡◌, ◌≢◌, ℕ, ◌<◌, ◌≤◌, ◌⊎◌, ◌==◌, ◌↔◌, if◌then◌else◌, List, length, slice_index_or}
 use Rattle.std.specs.List.{list_any}
 use Rattle.am_clock.specs.Times.{Times}
-use Rattle.am_clock.specs.Covered.{StartsIn, EndsIn}
+use Rattle.am_clock.specs.Covered.{StartsIn, EndsIn, IsCovered}
 use Rattle.am_domain.specs.Values.{NodeValue, LinkValue}
 use Rattle.am_domain.specs.Lists.{AllBelow, IsFirstPlace}
 use Rattle.am_domain.specs.declared.link.Edge.{Edge}
@@ -79,6 +79,11 @@ IsFirstBlock times nodes edges first = (block : ℕ) → (first ≤ block) ↔ S
 -- the blocks below this one end within the span of each capture, and no others
 abbrev pub IsEndBlock : Times → List NodeValue → List Edge → ℕ → Type 0
 IsEndBlock times nodes edges end = (block : ℕ) → (block < end) ↔ EndsBelow times nodes edges (length nodes) block
+
+-- the block is covered at every node: each capture's span has every reading of the block's window there
+abbrev pub IsReported : Times → List NodeValue → List Edge → ℕ → Type 0
+IsReported times nodes edges block =
+    (k : ℕ) (d : NodeValue) → k < length nodes → IsCovered times (slice_index_or nodes k d).from (slice_index_or nodes k d).until (shift_at times edges k) block
 
 -- what the joining of links answers: the first link with an end that is no node, or want of memory
 abbrev pub TellsLoose : List NodeValue → List LinkValue → DomainError → Type 0
