@@ -1,9 +1,7 @@
 -- What `check` prints, and that its domain file is refused or not.
-use Rattle.std.proofs.Common.{arith, refl, sym, ap, subst, ◌∙◌, ◌≡◌, ℕ, ◌+◌, ◌<◌, ◌≤◌, List, [], ◌∷◌, ◌++◌, length, take, map, Option, Some, None, Ok, Err, inl, inr, append_assoc}
+use Rattle.std.proofs.Common.{arith, refl, ap, subst, ◌≡◌, ℕ, ◌≤◌, List, length, Option, Some, Ok, Err, inl, inr}
 use Rattle.toml.specs.Data.{Members}
-use Rattle.am_base.specs.Shelves.{File, Told, OnTold, IsAbsent, file_named}
-use Rattle.am_base.specs.declared.file.FileFault.{FileFault}
-use Rattle.am_base.specs.declared.file.FileFault.TheVariants as whole
+use Rattle.am_base.specs.Shelves.{File, Told, OnTold, file_named}
 use Rattle.am_domain.specs.Domains.{DomainValue, IsDocument, IsDomain, IsRefusal, TellsRefusal, IsAnswer}
 use Rattle.am_domain.specs.declared.error.DomainError.{DomainError}
 use Rattle.am_domain.specs.declared.error.DomainError.TheVariants as refused
@@ -12,7 +10,7 @@ use Rattle.am_cli.specs.Commands.{Check}
 use Rattle.am_cli.specs.Commands.Command.{Checking}
 use Rattle.am_cli.specs.Runs.{IsStopOf}
 use Rattle.am_cli.specs.Shown.{stop_of_domain}
-use Rattle.am_cli.specs.Stops.{Refusal, Stop, refusal_status}
+use Rattle.am_cli.specs.Stops.{Refusal, refusal_status}
 use Rattle.am_cli.specs.Stops.Refusal.{Missing, TooLong, BadCapture, HeadersCut, BadDomain}
 use Rattle.am_cli.proofs.FileLemmas.{told_more}
 use Rattle.am_cli.proofs.ReadLemmas.{one_file}

@@ -1,5 +1,5 @@
 -- What `check` prints, and which refusal of its domain file comes first.
-use Rattle.std.specs.Prelude.{◌≡◌, ℕ, ◌+◌, ◌-◌, ◌<◌, ◌≤◌, List, [], ◌∷◌, ◌++◌, map, flat_map, length, slice_index_or, Option, Some, None, codes, decimal}
+use Rattle.std.specs.Prelude.{◌≡◌, ℕ, ◌+◌, ◌-◌, ◌<◌, ◌≤◌, List, [], ◌∷◌, ◌++◌, map, flat_map, length, slice_index_or, Some, None, codes, decimal}
 use Rattle.toml.specs.Data.{Members}
 use Rattle.am_base.specs.Shelves.{File, file_named}
 use Rattle.am_addr.specs.Bits.{Span}

@@ -1,4 +1,4 @@
-use Rattle.std.proofs.Common.{◌∙◌, sym, subst, arith, refl, take, string_bytes}
+use Rattle.std.proofs.Common.{sym, subst, arith, refl, take}
 use Rattle.am_domain.specs.Domains.{IsDocument, TellsRefusal}
 use Rattle.am_cli.specs.Check.{IsSummary}
 use Rattle.am_cli.specs.Commands.Command.{Checking}

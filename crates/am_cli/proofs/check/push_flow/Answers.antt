@@ -1,4 +1,4 @@
-use Rattle.std.proofs.Common.{◌++◌, ap, sym, subst, ◌∙◌, refl, codes, decimal, string_bytes}
+use Rattle.std.proofs.Common.{◌++◌, ap, subst, ◌∙◌, refl, codes, decimal, string_bytes}
 use Rattle.am_cli.specs.Check.{IsPrefixText}
 use Rattle.am_cli.proofs.LineLemmas.{flow_pieces}
 use Rattle.am_cli.proofs.check.push_flow.Goals as goal
