@@ -1,11 +1,3 @@
-pub mod SixWords
 pub mod TableLemmas
-pub mod ReadLemmas
-pub mod CaptureLemmas
-pub mod FileLemmas
-pub mod RunLemmas
-pub mod LinkLemmas
-pub mod ShowLemmas
 pub mod ShowSteps
 pub mod LineLemmas
-pub mod CheckLemmas

@@ -4,7 +4,7 @@ use Rattle.std.proofs.lemmas.List.{append-nil, length-take, take_more}
 use Rattle.am_domain.specs.Values.{FlowValue, NodeValue}
 use Rattle.am_domain.specs.Network.{shift_at}
 use Rattle.am_domain.specs.Domains.{DomainValue}
-use Rattle.am_cli.specs.Check.{IsFlowLine, AreFlowLines, node_line, node_lines}
+use Rattle.am_cli.specs.commands.Check.{IsFlowLine, AreFlowLines, node_line, node_lines}
 use Rattle.am_cli.specs.Checking.{AddsFlow, AddsFlows}
 
 pub four_pieces : (p a m b : List ℕ) → p ++ (a ++ (m ++ b)) ≡ p ++ a ++ m ++ b

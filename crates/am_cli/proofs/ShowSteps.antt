@@ -12,7 +12,7 @@ use Rattle.am_pcap.specs.declared.head.Head.{Head}
 use Rattle.am_pcap.specs.declared.frame.LinkKind.{LinkKind}
 use Rattle.am_pcap.specs.declared.frame.Frame.TheVariants.{Ip6}
 use Rattle.am_cli.specs.Showing.{AddsFrame, AddsPacket}
-use Rattle.am_cli.specs.CaptureFiles.{is_whole}
+use Rattle.am_pcap.specs.CaptureFiles.{is_whole}
 use Rattle.am_cli.specs.Lines.{IsLine, AreLines, IsPacketText}
 
 -- the lines of records, and one more behind them

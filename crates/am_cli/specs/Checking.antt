@@ -2,7 +2,7 @@
 use Rattle.std.specs.Prelude.{◌≡◌, ℕ, List, ◌++◌}
 use Rattle.am_addr.specs.Bits.{Span}
 use Rattle.am_domain.specs.Values.{FlowValue}
-use Rattle.am_cli.specs.Check.{IsPrefixText, IsFlowLine, AreFlowLines}
+use Rattle.am_cli.specs.commands.Check.{IsPrefixText, IsFlowLine, AreFlowLines}
 
 -- the text grew by a prefix
 pub record AddsPrefix (span : Span) (old new : List ℕ) : Type 0 where

@@ -11,7 +11,7 @@ use Rattle.am_pcap.specs.Frames.{IsFramed}
 use Rattle.am_pcap.specs.declared.frame.Frame.{Frame}
 use Rattle.am_pcap.specs.declared.frame.Frame.TheVariants.{Ip6, Other, Cut}
 use Rattle.am_pcap.specs.declared.head.Head.{Head}
-use Rattle.am_cli.specs.CaptureFiles.{is_whole}
+use Rattle.am_pcap.specs.CaptureFiles.{is_whole}
 
 -- what stands first: the record's number, its reading, how many bytes were captured and how many the packet had
 abbrev pub record_text : Bool → ℕ → Packet → List ℕ

@@ -4,7 +4,7 @@ use Rattle.am_pcap.specs.Packets.{Packet}
 use Rattle.am_pcap.specs.Frames.{IsFramed}
 use Rattle.am_pcap.specs.declared.frame.Frame.{Frame}
 use Rattle.am_pcap.specs.declared.frame.LinkKind.{LinkKind}
-use Rattle.am_cli.specs.CaptureFiles.{is_whole}
+use Rattle.am_pcap.specs.CaptureFiles.{is_whole}
 use Rattle.am_cli.specs.Lines.{IsFrameText, IsPacketText}
 
 -- a line grew by what a record holds

@@ -1,26 +1,28 @@
--- What the program's own values say: a command, a stop.
-use Rattle.std.specs.Prelude.{ℕ, List}
-use Rattle.am_pcap.specs.declared.capture.FileError.{FileError}
-use Rattle.am_pcap.specs.declared.capture.FileError.TheVariants as fault
+-- What the program's own values say: a command, an answer.
+use Rattle.std.specs.Prelude.{◌≡◌, ◌⊎◌, ℕ, List, Option, None, Some, Result, Ok, Err, option_map, string_bytes}
 use Rattle.am_base.specs.declared.file.FileFault.{FileFault}
 use Rattle.am_base.specs.declared.file.FileFault.TheVariants as whole
-use Rattle.am_domain.specs.declared.error.DomainError.{DomainError}
-use Rattle.am_domain.specs.declared.error.DomainError.TheVariants as domain
-use Rattle.am_cli.specs.Commands as said
-use Rattle.am_cli.specs.Commands.{Link, Show, Check}
-use Rattle.am_cli.specs.Stops as told
-use Rattle.am_cli.specs.declared.words.LinkWords.{LinkWords}
-use Rattle.am_cli.specs.declared.words.ShowWords.{ShowWords}
-use Rattle.am_cli.specs.declared.words.CheckWords.{CheckWords}
-use Rattle.am_cli.specs.declared.words.Command.{Command}
-use Rattle.am_cli.specs.declared.words.Command.TheVariants.{Link as LinkCommand, Show as ShowCommand, Check as CheckCommand}
-use Rattle.am_cli.specs.declared.stop.Refusal.{Refusal}
-use Rattle.am_cli.specs.declared.stop.Refusal.TheVariants.{Missing, TooLong, BadCapture, HeadersCut, BadDomain}
-use Rattle.am_cli.specs.declared.stop.Stop.{Stop}
-use Rattle.am_cli.specs.declared.stop.Stop.TheVariants.{NoCommand, Refused, ReadFault, WriteFault, NoMemory}
+use Rattle.am_pcap.specs.declared.capture.FileError.{FileError}
+use Rattle.am_pcap.specs.declared.capture.FileError.TheVariants as capture
+use Rattle.am_cli.specs.Answers as said
+use Rattle.am_cli.specs.Answers.{Answer, Ending}
+use Rattle.am_cli.specs.Chains.{Inputs, Judged, Follows, StopsAt}
+use Rattle.am_cli.specs.Forms as form
+use Rattle.am_cli.specs.commands.Link as link
+use Rattle.am_cli.specs.commands.Show as show
+use Rattle.am_cli.specs.commands.Check as check
+use Rattle.am_cli.specs.declared.answer.Reason.{Reason}
+use Rattle.am_cli.specs.declared.answer.Reason.TheVariants.{TooLong, BadCapture, HeadersCut, BadDomain}
+use Rattle.am_cli.specs.declared.answer.Stop.{Stop}
+use Rattle.am_cli.specs.declared.answer.Stop.TheVariants.{NoCommand, Missing, Refused, ReadFault, WriteFault, NoMemory}
+use Rattle.am_cli.specs.declared.commands.link.LinkWords.{LinkWords}
+use Rattle.am_cli.specs.declared.commands.show.ShowWords.{ShowWords}
+use Rattle.am_cli.specs.declared.commands.check.CheckWords.{CheckWords}
+use Rattle.am_cli.specs.declared.commands.Command.{Command}
+use Rattle.am_cli.specs.declared.commands.Command.TheVariants.{Link as LinkCommand, Show as ShowCommand, Check as CheckCommand}
 
 -- what a `LinkWords` says
-abbrev pub link_shown : LinkWords → Link
+abbrev pub link_shown : LinkWords → link.Link
 link_shown w = record {
   block = w.timing.block;
   shift = w.timing.delay_min;
@@ -30,51 +32,61 @@ link_shown w = record {
 }
 
 -- what a `ShowWords` says
-abbrev pub show_shown : ShowWords → Show
+abbrev pub show_shown : ShowWords → show.Show
 show_shown w = record { file = w.file.now }
 
 -- what a `CheckWords` says
-abbrev pub check_shown : CheckWords → Check
+abbrev pub check_shown : CheckWords → check.Check
 check_shown w = record { file = w.file.now }
 
 -- what a `Command` says
-abbrev pub command_shown : Command → said.Command
-command_shown (LinkCommand w) = said.Command.Linking (link_shown w)
-command_shown (ShowCommand w) = said.Command.Showing (show_shown w)
-command_shown (CheckCommand w) = said.Command.Checking (check_shown w)
+abbrev pub command_shown : Command → form.Command
+command_shown (LinkCommand w) = record { kind = form.Kind.Linking; asked = link_shown w }
+command_shown (ShowCommand w) = record { kind = form.Kind.Showing; asked = show_shown w }
+command_shown (CheckCommand w) = record { kind = form.Kind.Checking; asked = check_shown w }
 
--- what a `Refusal` says
-abbrev pub refusal_shown : Refusal → told.Refusal
-refusal_shown (Missing name) = told.Refusal.Missing name.now
-refusal_shown (TooLong name) = told.Refusal.TooLong name.now
-refusal_shown (BadCapture name error) = told.Refusal.BadCapture name.now error
-refusal_shown (HeadersCut name number) = told.Refusal.HeadersCut name.now number
-refusal_shown (BadDomain name error) = told.Refusal.BadDomain name.now error
+-- what a `Reason` says
+abbrev pub reason_shown : Reason → said.Reason
+reason_shown TooLong = said.Reason.TooLong
+reason_shown (BadCapture error) = said.Reason.BadCapture error
+reason_shown (HeadersCut number) = said.Reason.HeadersCut number
+reason_shown (BadDomain error) = said.Reason.BadDomain error
 
 -- what a `Stop` says
-abbrev pub stop_shown : Stop → told.Stop
-stop_shown NoCommand = told.Stop.NoCommand
-stop_shown (Refused r) = told.Stop.Refused (refusal_shown r)
-stop_shown (ReadFault name) = told.Stop.ReadFault name.now
-stop_shown WriteFault = told.Stop.WriteFault
-stop_shown NoMemory = told.Stop.NoMemory
+abbrev pub stop_shown : Stop → Answer
+stop_shown NoCommand = said.Answer.NoCommand
+stop_shown (Missing name) = said.Answer.Ended (said.Ending.Missing (string_bytes name))
+stop_shown (Refused name reason) = said.Answer.Ended (said.Ending.Refused (option_map (λ n. string_bytes n) name) (reason_shown reason))
+stop_shown (ReadFault name) = said.Answer.ReadFault (string_bytes name)
+stop_shown WriteFault = said.Answer.WriteFault
+stop_shown NoMemory = said.Answer.NoMemory
 
--- the stop where a capture could not be read on
-abbrev pub stop_of_file : List ℕ → FileError → told.Stop
-stop_of_file name fault.Missing = told.Stop.Refused (told.Refusal.Missing name)
-stop_of_file name fault.ReadFault = told.Stop.ReadFault name
-stop_of_file name fault.TooLong = told.Stop.Refused (told.Refusal.TooLong name)
-stop_of_file name (fault.Bad error) = told.Stop.Refused (told.Refusal.BadCapture name error)
-stop_of_file name fault.Memory = told.Stop.NoMemory
+-- the answer of a command that is done, or why it stopped
+abbrev pub answer_of : Result (Unit {0}) Stop → Answer
+answer_of (Ok done) = said.Answer.Ended said.Ending.Done
+answer_of (Err stop) = stop_shown stop
 
--- the stop where a domain file could not be read whole
-abbrev pub stop_of_whole : List ℕ → FileFault → told.Stop
-stop_of_whole name whole.Missing = told.Stop.Refused (told.Refusal.Missing name)
-stop_of_whole name whole.ReadFault = told.Stop.ReadFault name
-stop_of_whole name whole.TooLong = told.Stop.Refused (told.Refusal.TooLong name)
-stop_of_whole name whole.Memory = told.Stop.NoMemory
+-- the answer is this one, or want of memory
+abbrev pub IsAnswer : Answer → Answer → Type 0
+IsAnswer wanted answer = (answer ≡ wanted) ⊎ (answer ≡ said.Answer.NoMemory)
 
--- the stop where a domain file is refused
-abbrev pub stop_of_domain : List ℕ → DomainError → told.Stop
-stop_of_domain name domain.Memory = told.Stop.NoMemory
-stop_of_domain name error = told.Stop.Refused (told.Refusal.BadDomain name error)
+-- the answer where this file could not be read whole
+abbrev pub file_answer : List ℕ → FileFault → Answer
+file_answer name whole.Missing = said.Answer.Ended (said.Ending.Missing name)
+file_answer name whole.ReadFault = said.Answer.ReadFault name
+file_answer name whole.TooLong = said.Answer.Ended (said.Ending.Refused (Some name) said.Reason.TooLong)
+file_answer name whole.Memory = said.Answer.NoMemory
+
+-- the answer where this capture could not be opened or read on
+abbrev pub capture_answer : List ℕ → FileError → Answer
+capture_answer name capture.Missing = said.Answer.Ended (said.Ending.Missing name)
+capture_answer name capture.ReadFault = said.Answer.ReadFault name
+capture_answer name capture.TooLong = said.Answer.Ended (said.Ending.Refused (Some name) said.Reason.TooLong)
+capture_answer name (capture.Bad error) = said.Answer.Ended (said.Ending.Refused (Some name) (said.Reason.BadCapture error))
+capture_answer name capture.Memory = said.Answer.NoMemory
+
+-- what a function answers that takes the file of this name: a value that stands for what is taken of it, or a stop at it
+abbrev pub Takes :
+    {A T : Type 0} → Inputs → Inputs → List ℕ → (List ℕ → Result A said.Reason → Type 0) → (T → A → Type 0) → Result T Stop → Type 0
+Takes before after name judge Holds (Ok x) = (a : _) × Judged before.told name judge (Ok a) × Follows before after × Holds x a
+Takes before after name judge Holds (Err stop) = StopsAt before after name judge (stop_shown stop)

@@ -1,26 +1,14 @@
-//! The line on standard error of a domain file that is refused.
-ghost use Rattle.std.specs.Prelude.{◌≡◌, ◌++◌, OnOk, IfOk, string_bytes, codes, decimal};
-ghost use Rattle.am_cli.specs.Stops.{said_of};
+//! What is said of a domain file that is refused.
+ghost use Rattle.std.specs.Prelude.{◌≡◌, ◌++◌, OnOk, string_bytes, codes, decimal};
 ghost use Rattle.am_cli.specs.DomainTexts.{part_text, key_text, index_text, member_text, path_text, timing_text, many_text, twice_text, domain_text};
 
 use am_clock::TimingError;
 use am_domain::{DomainError, Key, Part, Repeated};
-use std::alloc::{AllocError, Global};
+use std::alloc::AllocError;
 use std::fmt::Write;
 
-/// The line of a domain file that is refused.
-pub fn domain_line(alloc: Global, error: &DomainError) -> Result<String, AllocError>
-    ensures { IfOk result (λ line. string_bytes line ≡ said_of (codes "domain") (domain_text error.now)) }
-{
-    let mut line = String::new(alloc);
-    line.push_str("altmark: domain: ")?;
-    push_error(&mut line, error)?;
-    line.push_str("\n")?;
-    Ok(line)
-}
-
-// Adds what is said of a refusal.
-fn push_error(line: &mut String, error: &DomainError) -> Result<(), AllocError>
+/// Adds what is said of a domain file that is refused.
+pub fn push_error(line: &mut String, error: &DomainError) -> Result<(), AllocError>
     ensures { OnOk result (string_bytes line.new ≡ string_bytes line.old ++ domain_text error.now) }
 {
     match error {

@@ -4,16 +4,15 @@
 //! [`run`] does all that the program does, over a shelf of files and two sinks. `main` hands it the real ones.
 #![tactic(auto)]
 
-mod capture;
-mod check;
+mod answer;
+mod commands;
+mod counting;
 mod domain_line;
-mod link;
+mod inputs;
+
+mod laws;
 mod run;
-mod show;
-mod stop;
 mod table;
-#[cfg(test)]
-mod tests;
 mod words;
 
 use am_base::{DiskShelf, StdSink};

@@ -1,9 +1,0 @@
-use Rattle.std.proofs.Common.{◌≡◌, ◌++◌, map, string_bytes}
-use Rattle.std.specs.Prelude.{flat_map}
-use Rattle.am_ip6.specs.Shown.{lent}
-use Rattle.am_cli.specs.Lines.{header_text}
-use Rattle.am_cli.proofs.show.push_headers.Given as goal
-
--- the headers so far were added
-abbrev pub invariant-loop-header : goal.invariant-loop-header
-invariant-loop-header l = string_bytes l.line ≡ string_bytes l.fn.line ++ flat_map header_text (map lent l.yielded)

@@ -1,0 +1,25 @@
+-- What is known of all inputs of commands: bytes that are taken aren't refused.
+use Rattle.std.specs.Prelude.{◌≡◌, ℕ, List, Result, Ok, Err}
+use Rattle.am_ip6.specs.declared.marks.Place.{Place}
+use Rattle.am_pcap.specs.Packets.{Packet}
+use Rattle.am_pcap.specs.CaptureFiles.{IsWholeCapture, IsRefusedIn, IsRefusedHeader}
+use Rattle.am_pcap.specs.declared.refusal.CapError.{CapError}
+use Rattle.am_pcap.specs.declared.head.Head.{Head}
+use Rattle.am_domain.specs.Domains.{DomainValue}
+use Rattle.am_cli.specs.Answers.{Reason}
+use Rattle.am_cli.specs.Inputs.{JudgesCapture, JudgesDomain}
+use Rattle.am_cli.specs.MeterStub.{Marked}
+
+-- bytes of which something is taken aren't refused
+pub record Excludes {A : Type 0} (judge : List ℕ → Result A Reason → Type 0) : Type 0 where
+  pub never : (bytes : List ℕ) (a : A) (reason : Reason) → judge bytes (Ok a) → judge bytes (Err reason) → ⊥
+
+-- a whole capture isn't refused in its file header or in a record
+pub record CaptureExcludes : Type 0 where
+  pub header : (bytes : List ℕ) (h : Head) (ps : List Packet) (e : CapError) → IsWholeCapture bytes h ps → IsRefusedHeader bytes e → ⊥
+  pub records : (bytes : List ℕ) (h : Head) (ps qs : List Packet) (e : CapError) → IsWholeCapture bytes h ps → IsRefusedIn bytes e qs → ⊥
+
+pub record Laws : Type 0 where
+  pub capture : CaptureExcludes
+  pub marks : (place : Place) → Excludes (JudgesCapture place)
+  pub domain : Excludes JudgesDomain

@@ -1,0 +1,231 @@
+//! Why a command stops, with which status, and the one line that it leaves on standard error.
+ghost use Rattle.std.specs.Prelude.{◌≡◌, ◌++◌, Some, IfOk, OnOk, option_map, string_bytes, codes, decimal};
+ghost use Rattle.am_cli.specs.Answers as said;
+ghost use Rattle.am_cli.specs.Answers.{said_of, refusal_line, subject, reason_text, capture_text, line, status};
+ghost use Rattle.am_cli.specs.Shown.{reason_shown, stop_shown, IsAnswer, file_answer, capture_answer};
+
+use crate::domain_line::push_error;
+use am_base::FileFault;
+use am_domain::DomainError;
+use am_pcap::{CapError, FileError};
+use std::alloc::{AllocError, Global};
+use std::fmt::Write;
+
+/// Why an input is refused.
+#[derive(Clone, Copy, Debug)]
+pub enum Reason {
+    /// Its file has more bytes than its limit.
+    TooLong,
+    /// Its bytes are no capture.
+    BadCapture { error: CapError },
+    /// The headers of the record of this number are cut: bytes that may hold a mark were not captured.
+    HeadersCut { number: u64 },
+    /// Its bytes are no domain file.
+    BadDomain { error: DomainError },
+}
+
+/// Why a command stops. Each owns the name that it tells.
+#[derive(Debug, Drop)]
+pub enum Stop {
+    /// The words are no command.
+    NoCommand,
+    /// No file has this name.
+    Missing { name: String },
+    /// An input is refused: the file of this name, or what has no file.
+    Refused {
+        name: Option<String>,
+        reason: Reason,
+    },
+    /// This file could not be opened or read.
+    ReadFault { name: String },
+    /// The output could not be written.
+    WriteFault,
+    /// There was not enough memory.
+    NoMemory,
+}
+
+impl Stop {
+    /// No file has this name; or there was no memory to keep it.
+    pub fn missing(alloc: Global, name: &str) -> Stop
+        ensures { IsAnswer (said.Answer.Ended (said.Ending.Missing name.now)) (stop_shown result) }
+    {
+        match String::from_str(alloc, name) {
+            Ok(name) => Stop::Missing { name },
+            Err(_) => Stop::NoMemory,
+        }
+    }
+
+    /// This file is refused; or there was no memory to keep its name.
+    pub fn refused(alloc: Global, name: &str, reason: Reason) -> Stop
+        ensures {
+            IsAnswer (said.Answer.Ended (said.Ending.Refused (Some name.now) (reason_shown reason)))
+                (stop_shown result)
+        }
+    {
+        match String::from_str(alloc, name) {
+            Ok(name) => Stop::Refused {
+                name: Some(name),
+                reason,
+            },
+            Err(_) => Stop::NoMemory,
+        }
+    }
+
+    /// This file could not be opened or read; or there was no memory to keep its name.
+    pub fn read_fault(alloc: Global, name: &str) -> Stop
+        ensures { IsAnswer (said.Answer.ReadFault name.now) (stop_shown result) }
+    {
+        match String::from_str(alloc, name) {
+            Ok(name) => Stop::ReadFault { name },
+            Err(_) => Stop::NoMemory,
+        }
+    }
+
+    /// This file could not be read whole.
+    pub fn of_file(alloc: Global, name: &str, fault: FileFault) -> Stop
+        ensures { IsAnswer (file_answer name.now fault) (stop_shown result) }
+    {
+        match fault {
+            FileFault::Missing => Stop::missing(alloc, name),
+            FileFault::ReadFault => Stop::read_fault(alloc, name),
+            FileFault::TooLong => Stop::refused(alloc, name, Reason::TooLong),
+            FileFault::Memory => Stop::NoMemory,
+        }
+    }
+
+    /// This capture could not be opened or read on.
+    pub fn of_capture(alloc: Global, name: &str, error: FileError) -> Stop
+        ensures { IsAnswer (capture_answer name.now error) (stop_shown result) }
+    {
+        match error {
+            FileError::Missing => Stop::missing(alloc, name),
+            FileError::ReadFault => Stop::read_fault(alloc, name),
+            FileError::TooLong => Stop::refused(alloc, name, Reason::TooLong),
+            FileError::Bad(error) => Stop::refused(alloc, name, Reason::BadCapture { error }),
+            FileError::Memory => Stop::NoMemory,
+        }
+    }
+
+    /// The status of the program.
+    pub fn status(&self) -> u8
+        ensures { result ≡ status (stop_shown self.now) }
+    {
+        match self {
+            Stop::NoCommand => 2,
+            Stop::Missing { .. } => 4,
+            Stop::Refused { .. } => 3,
+            Stop::ReadFault { .. } => 5,
+            Stop::WriteFault => 6,
+            Stop::NoMemory => 7,
+        }
+    }
+
+    /// The line on standard error.
+    pub fn line(&self, alloc: Global) -> Result<String, AllocError>
+        ensures { IfOk result (λ text. string_bytes text ≡ line (stop_shown self.now)) }
+    {
+        match self {
+            Stop::NoCommand => String::from_str(alloc, "altmark: usage\n"),
+            Stop::Missing { name } => said_of(alloc, name.as_str(), "missing"),
+            Stop::Refused { name, reason } => refused_line(alloc, name, *reason),
+            Stop::ReadFault { name } => said_of(alloc, name.as_str(), "read fault"),
+            Stop::WriteFault => String::from_str(alloc, "altmark: write fault\n"),
+            Stop::NoMemory => String::from_str(alloc, "altmark: out of memory\n"),
+        }
+    }
+}
+
+// A line that says this of a file.
+fn said_of(alloc: Global, name: &str, what: &str) -> Result<String, AllocError>
+    ensures { IfOk result (λ text. string_bytes text ≡ said_of name.now what.now) }
+{
+    let mut line = String::new(alloc);
+    write!(line, "altmark: {name}: {what}\n")?;
+    Ok(line)
+}
+
+// The line of an input that is refused.
+fn refused_line(
+    alloc: Global,
+    name: &Option<String>,
+    reason: Reason,
+) -> Result<String, AllocError>
+    ensures {
+        IfOk result (λ text. string_bytes text
+            ≡ refusal_line (option_map (λ n. string_bytes n) name.now) (reason_shown reason))
+    }
+{
+    let mut line = String::new(alloc);
+    line.push_str("altmark: ")?;
+    push_subject(&mut line, name, reason)?;
+    push_reason(&mut line, reason)?;
+    line.push_str("\n")?;
+    Ok(line)
+}
+
+// Adds what is refused: a file's name, or the word `domain`.
+fn push_subject(
+    line: &mut String,
+    name: &Option<String>,
+    reason: Reason,
+) -> Result<(), AllocError>
+    ensures {
+        OnOk result (string_bytes line.new ≡ string_bytes line.old
+            ++ subject (option_map (λ n. string_bytes n) name.now) (reason_shown reason))
+    }
+{
+    let Some(name) = name else {
+        return Ok(());
+    };
+    match reason {
+        Reason::BadDomain { .. } => line.push_str("domain: "),
+        Reason::TooLong => push_name(line, name.as_str()),
+        Reason::BadCapture { .. } => push_name(line, name.as_str()),
+        Reason::HeadersCut { .. } => push_name(line, name.as_str()),
+    }
+}
+
+// Adds a file's name.
+fn push_name(line: &mut String, name: &str) -> Result<(), AllocError>
+    ensures { OnOk result (string_bytes line.new ≡ string_bytes line.old ++ (name.now ++ codes ": ")) }
+{
+    write!(line, "{name}: ")
+}
+
+// Adds why an input is refused.
+fn push_reason(line: &mut String, reason: Reason) -> Result<(), AllocError>
+    ensures {
+        OnOk result
+            (string_bytes line.new ≡ string_bytes line.old ++ reason_text (reason_shown reason))
+    }
+{
+    match reason {
+        Reason::TooLong => line.push_str("too long"),
+        Reason::BadCapture { error } => push_capture(line, error),
+        Reason::HeadersCut { number } => write!(line, "headers of record {number} are cut"),
+        Reason::BadDomain { error } => push_error(line, &error),
+    }
+}
+
+// Adds why a capture is refused.
+fn push_capture(line: &mut String, error: CapError) -> Result<(), AllocError>
+    ensures { OnOk result (string_bytes line.new ≡ string_bytes line.old ++ capture_text error) }
+{
+    match error {
+        CapError::BadMagic => line.push_str("bad magic"),
+        CapError::BadVersion => line.push_str("bad version"),
+        CapError::UnknownLink { link } => write!(line, "unknown link type {link}"),
+        CapError::RecordTooLong { number, length } => push_too_long(line, number, length),
+        CapError::CutFile { number } => write!(line, "file ends in record {number}"),
+    }
+}
+
+// Adds that a record says too many bytes.
+fn push_too_long(line: &mut String, number: u64, length: u32) -> Result<(), AllocError>
+    ensures {
+        OnOk result (string_bytes line.new ≡ string_bytes line.old
+            ++ (codes "record " ++ decimal number ++ codes " is too long: " ++ decimal length))
+    }
+{
+    write!(line, "record {number} is too long: {length}")
+}

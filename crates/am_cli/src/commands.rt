@@ -1,0 +1,88 @@
+//! The commands of the program: the word that names each, what the words after it say, and what it does.
+//!
+//! A command is a file here and a file in `specs/commands/`, where its chain of inputs is stated. It joins by a case in
+//! each of the two functions below.
+ghost use Rattle.std.specs.Prelude.{◌∷◌, map, string_bytes, IfSome, IfNone};
+ghost use Rattle.am_cli.specs.Chains.{inputs, output, Performs};
+ghost use Rattle.am_cli.specs.Forms.{Says, IsNoCommand, chain_of};
+ghost use Rattle.am_cli.specs.Shown.{command_shown, answer_of};
+
+mod check;
+mod link;
+mod show;
+
+use crate::answer::Stop;
+use am_base::{Shelf, Sink};
+use check::CheckWords;
+use link::LinkWords;
+use show::ShowWords;
+use std::alloc::Global;
+
+/// A command, with what it was asked.
+#[derive(Clone, Copy)]
+pub enum Command<'a> {
+    /// Loss between two points.
+    Link(LinkWords<'a>),
+    /// What each record of a capture says.
+    Show(ShowWords<'a>),
+    /// The summary of a domain.
+    Check(CheckWords<'a>),
+}
+
+/// The command that the words are; none where they are no command.
+pub fn command_of(words: &[String]) -> Option<Command<'_>>
+    ensures only { IfSome result (λ c. Says (map string_bytes words.now) (command_shown c)) }
+    ensures none { IfNone result (IsNoCommand (map string_bytes words.now)) }
+{
+    match words {
+        [verb, rest @ ..] => command_named(verb.as_str(), rest),
+        [] => None,
+    }
+}
+
+// The command that this word names, with what the words after it say.
+fn command_named<'a>(verb: &str, words: &'a [String]) -> Option<Command<'a>>
+    ensures only { IfSome result (λ c. Says (verb.now ∷ map string_bytes words.now) (command_shown c)) }
+    ensures none { IfNone result (IsNoCommand (verb.now ∷ map string_bytes words.now)) }
+{
+    if verb == "link" {
+        let Some(asked) = link::words_of(words) else {
+            return None;
+        };
+        return Some(Command::Link(asked));
+    }
+    if verb == "show" {
+        let Some(asked) = show::words_of(words) else {
+            return None;
+        };
+        return Some(Command::Show(asked));
+    }
+    if verb == "check" {
+        let Some(asked) = check::words_of(words) else {
+            return None;
+        };
+        return Some(Command::Check(asked));
+    }
+    None
+}
+
+/// Performs a command's chain, and answers why it stopped.
+pub fn perform<S: Shelf, O: Sink>(
+    alloc: Global,
+    command: &Command<'_>,
+    shelf: &mut S,
+    out: &mut O,
+) -> Result<(), Stop>
+    ensures {
+        Performs (inputs (S.told shelf.old) (S.faults shelf.old) (S.missed shelf.old))
+            (inputs (S.told shelf.new) (S.faults shelf.new) (S.missed shelf.new))
+            (output (O.written out.old) (O.faults out.old)) (output (O.written out.new) (O.faults out.new))
+            (chain_of (command_shown command.now)) (answer_of result)
+    }
+{
+    match command {
+        Command::Link(asked) => link::link(alloc, asked, shelf, out),
+        Command::Show(asked) => show::show(alloc, asked, shelf, out),
+        Command::Check(asked) => check::check(alloc, asked, shelf, out),
+    }
+}

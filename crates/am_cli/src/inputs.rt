@@ -1,0 +1,32 @@
+//! The inputs that commands take whole.
+ghost use Rattle.std.specs.Prelude.{◌≡◌};
+ghost use Rattle.am_cli.specs.Chains.{inputs};
+ghost use Rattle.am_cli.specs.Inputs.{JudgesDomain};
+ghost use Rattle.am_cli.specs.Shown.{Takes};
+
+use crate::answer::{Reason, Stop};
+use am_base::{Shelf, read_file};
+use am_domain::{Domain, DomainError, read_domain};
+use std::alloc::Global;
+
+/// The most bytes of a domain file: 1 MiB. A domain of the greatest size takes a quarter of that.
+const MAX_DOMAIN: u32 = 1_048_576;
+
+/// Takes the domain of the file of this name, which is read to its end.
+pub fn take_domain<S: Shelf>(alloc: Global, shelf: &mut S, name: &str) -> Result<Domain, Stop>
+    ensures {
+        Takes (inputs (S.told shelf.old) (S.faults shelf.old) (S.missed shelf.old))
+            (inputs (S.told shelf.new) (S.faults shelf.new) (S.missed shelf.new))
+            name.now JudgesDomain (λ domain d. domain ≡ d) result
+    }
+{
+    let bytes = match read_file(alloc, shelf, name, MAX_DOMAIN) {
+        Ok(bytes) => bytes,
+        Err(fault) => return Err(Stop::of_file(alloc, name, fault)),
+    };
+    match read_domain(alloc, &bytes) {
+        Ok(domain) => Ok(domain),
+        Err(DomainError::Memory) => Err(Stop::NoMemory),
+        Err(error) => Err(Stop::refused(alloc, name, Reason::BadDomain { error })),
+    }
+}
