@@ -9,5 +9,7 @@ pub mod Told
 pub mod Refusals
 pub mod Shelved
 pub mod SeekSteps
+pub mod ReadFiles
+pub mod Gives
 pub mod HeadReading
 pub mod Framed

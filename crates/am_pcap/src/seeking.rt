@@ -3,7 +3,8 @@ ghost use Rattle.std.specs.Prelude.{◌≡◌, ◌+◌, ◌*◌, ◌<◌, ◌≤
 ghost use Rattle.am_base.specs.Counts.{Rose};
 ghost use Rattle.am_base.specs.Shelves.{Takes, IsAtEnd};
 ghost use Rattle.am_pcap.specs.Captures.{HasSummary};
-ghost use Rattle.am_pcap.specs.Readings.{GivesError, most_read};
+ghost use Rattle.am_pcap.specs.Readings.{most_read};
+ghost use Rattle.am_pcap.specs.Answers.{GivesError};
 ghost use Rattle.am_pcap.specs.Seeking.{InOrder, Drains, DrainsTo, RefillFails, HeadUnread, HeadFed, HeadBad, HeadFound, HeadFails, HeadSteps, Steps, Sought, reading_of};
 ghost use Rattle.am_pcap.specs.declared.capture.FileError.TheVariants.{ReadFault};
 
