@@ -7,7 +7,7 @@ use Rattle.am_base.specs.Shelves.{Told, IsAbsent, IsAtEnd}
 use Rattle.am_base.specs.Sinks.{AppendsFront}
 use Rattle.am_base.specs.Files.{OnFile, KeepsFiles}
 use Rattle.am_pcap.specs.Packets.{Packet}
-use Rattle.am_pcap.specs.CaptureFiles.{BeginsWith, IsWholeCapture, IsRefusedIn, IsRefusedHeader, IsLong, IsReadWhole, WhyNotOpened}
+use Rattle.am_pcap.specs.CaptureFiles.{BeginsWith, IsWholeCapture, IsRefusedBehind, IsRefusedHeader, IsLong, IsReadWhole, WhyNotOpened}
 use Rattle.am_pcap.specs.declared.head.Head.{Head}
 use Rattle.am_pcap.specs.declared.refusal.CapError.{CapError}
 use Rattle.am_pcap.specs.declared.capture.FileError.TheVariants as opening
@@ -69,31 +69,31 @@ pub record IsTextOfFirst (told : Option Told) (name : List ℕ) (stream : Stream
   pub head : Head
   pub packets : List Packet
   pub begins : OnFile told name (λ bytes. BeginsWith bytes head packets)
-  pub text : stream.text_of head packets text
+  pub printed : stream.text_of head packets text
 
 -- the text is what is printed of the whole capture
 pub record IsTextOfAll (told : Option Told) (name : List ℕ) (stream : Stream) (text : List ℕ) : Type 0 where
   pub head : Head
   pub packets : List Packet
   pub whole : OnFile told name (λ bytes. IsWholeCapture bytes head packets)
-  pub text : stream.all_of head packets text
+  pub printed : stream.all_of head packets text
 
 -- the bytes are refused in a record, and the text is what is printed of the records before it
 pub record IsTextBeforeBad (told : Option Told) (name : List ℕ) (stream : Stream) (error : CapError) (text : List ℕ) : Type 0 where
   pub head : Head
   pub packets : List Packet
-  pub begins : OnFile told name (λ bytes. BeginsWith bytes head packets)
-  pub refused : OnFile told name (λ bytes. IsRefusedIn bytes error packets)
-  pub text : stream.text_of head packets text
+  pub refused : OnFile told name (λ bytes. IsRefusedBehind bytes head packets error)
+  pub printed : stream.text_of head packets text
 
 -- the stream refuses a record, and the text is what is printed of the records before it
 pub record IsTextBeforeRefused (told : Option Told) (name : List ℕ) (stream : Stream) (reason : Reason) (text : List ℕ) : Type 0 where
   pub head : Head
   pub packets : List Packet
   pub packet : Packet
-  pub begins : OnFile told name (λ bytes. BeginsWith bytes head (packets ++ packet ∷ []))
+  pub begins : OnFile told name (λ bytes. BeginsWith bytes head packets)
+  pub next : OnFile told name (λ bytes. BeginsWith bytes head (packets ++ packet ∷ []))
   pub refused : stream.refuses head packets packet reason
-  pub text : stream.text_of head packets text
+  pub printed : stream.text_of head packets text
 
 -- a capture that is printed record by record is refused so, and this text is printed before: nothing where its file header
 -- is refused, else what is printed of the records before the refused one; of a file that is too long, of some first records
@@ -166,6 +166,7 @@ IsTextOfSome told name stream text = (text ≡ []) ⊎ IsTextOfFirst told name s
 pub record PrintsRead (before after : Option Told) (old new : Output) (name : List ℕ) (stream : Stream) : Type 0 where
   pub head : Head
   pub packets : List Packet
+  pub begins : OnFile before name (λ bytes. BeginsWith bytes head packets)
   pub read : IsReadWhole before after name head packets
   pub printed : PrintsAll old new (stream.text_of head packets)
 

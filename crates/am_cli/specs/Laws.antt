@@ -1,8 +1,8 @@
 -- What is known of all inputs of commands: bytes that are taken aren't refused.
-use Rattle.std.specs.Prelude.{◌≡◌, ℕ, List, Result, Ok, Err}
+use Rattle.std.specs.Prelude.{◌≡◌, ℕ, List, ◌++◌, Result, Ok, Err}
 use Rattle.am_ip6.specs.declared.marks.Place.{Place}
 use Rattle.am_pcap.specs.Packets.{Packet}
-use Rattle.am_pcap.specs.CaptureFiles.{IsWholeCapture, IsRefusedIn, IsRefusedHeader}
+use Rattle.am_pcap.specs.CaptureFiles.{BeginsWith, IsWholeCapture, IsRefusedIn, IsRefusedHeader}
 use Rattle.am_pcap.specs.declared.refusal.CapError.{CapError}
 use Rattle.am_pcap.specs.declared.head.Head.{Head}
 use Rattle.am_domain.specs.Domains.{DomainValue}
@@ -14,11 +14,19 @@ use Rattle.am_cli.specs.MeterStub.{Marked}
 pub record Excludes {A : Type 0} (judge : List ℕ → Result A Reason → Type 0) : Type 0 where
   pub never : (bytes : List ℕ) (a : A) (reason : Reason) → judge bytes (Ok a) → judge bytes (Err reason) → ⊥
 
--- a whole capture isn't refused in its file header or in a record
+-- these are the same header and the first of the same packets
+pub record IsFront (h k : Head) (ps qs : List Packet) : Type 0 where
+  pub head : h ≡ k
+  pub more : List Packet
+  pub packets : qs ≡ ps ++ more
+
+-- a whole capture isn't refused in its file header or in a record, and what it begins with are its header and its first packets
 pub record CaptureExcludes : Type 0 where
   pub header : (bytes : List ℕ) (h : Head) (ps : List Packet) (e : CapError) → IsWholeCapture bytes h ps → IsRefusedHeader bytes e → ⊥
   pub records : (bytes : List ℕ) (h : Head) (ps qs : List Packet) (e : CapError) → IsWholeCapture bytes h ps → IsRefusedIn bytes e qs → ⊥
+  pub front : (bytes : List ℕ) (h k : Head) (ps qs : List Packet) → BeginsWith bytes h ps → IsWholeCapture bytes k qs → IsFront h k ps qs
 
+-- what is known of the inputs of all commands
 pub record Laws : Type 0 where
   pub capture : CaptureExcludes
   pub marks : (place : Place) → Excludes (JudgesCapture place)

@@ -1,5 +1,5 @@
 //! The top call: from the words to what is printed, what is said of a stop, and the status.
-ghost use Rattle.std.specs.Prelude.{◌≡◌, ◌⊎◌, ◌↔◌, map, string_bytes};
+ghost use Rattle.std.specs.Prelude.{◌≡◌, ◌⊎◌, ◌↔◌, Some, map, string_bytes};
 ghost use Rattle.am_base.specs.Counts.{Rose};
 ghost use Rattle.am_base.specs.Shelves.{OnTold};
 ghost use Rattle.am_cli.specs.Answers.{line, status};
@@ -84,23 +84,28 @@ fn obey<S: Shelf, O: Sink>(
     }
 }
 
-// Says why a command stopped, and answers the status. Where there is no memory for the line, that is said.
+// Says why a command stopped, and answers the status. Where there is no memory for a line with a name, that is said.
 fn tell<E: Sink>(alloc: Global, stop: &Stop, err: &mut E) -> u8
     ensures {
         IsToldAs (output (E.written err.old) (E.faults err.old)) (output (E.written err.new) (E.faults err.new))
             (stop_shown stop.now) result
     }
 {
-    match stop.line(alloc) {
-        Ok(line) => {
-            say(err, line.as_str());
-            stop.status()
-        }
-        Err(_) => {
-            say(err, NO_MEMORY);
-            Stop::NoMemory.status()
+    match stop {
+        Stop::NoCommand => say(err, "altmark: usage\n"),
+        Stop::WriteFault => say(err, "altmark: write fault\n"),
+        Stop::NoMemory => say(err, NO_MEMORY),
+        Stop::Missing { .. } | Stop::Refused { .. } | Stop::ReadFault { .. } => {
+            match stop.line(alloc) {
+                Ok(line) => say(err, line.as_str()),
+                Err(_) => {
+                    say(err, NO_MEMORY);
+                    return Stop::NoMemory.status();
+                }
+            }
         }
     }
+    stop.status()
 }
 
 // Writes one line. Where it can't be written there is nobody to tell.

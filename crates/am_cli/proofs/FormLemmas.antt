@@ -1,0 +1,70 @@
+-- The words are one command; what the inputs of a command come to has one status. A command owes a case in each of these.
+use Rattle.std.proofs.Common.{arith, refl, sym, ap, subst, ◌∙◌, ◌≡◌, ℕ, List, [], ◌∷◌, ◌++◌, length, Option, Some, None, codes}
+use Rattle.std.specs.Prelude.{bytes_eq, cond}
+use Rattle.am_base.specs.Shelves.{Told}
+use Rattle.am_ip6.specs.declared.marks.Place.TheVariants.{HopByHop}
+use Rattle.am_cli.specs.Forms.{Kind, Command, Says, IsNoCommand, form, chain_of}
+use Rattle.am_cli.specs.Forms.Kind.{Linking, Showing, Checking}
+use Rattle.am_cli.specs.Inputs.{JudgesCapture, JudgesDomain}
+use Rattle.am_cli.specs.Laws.{Laws}
+use Rattle.am_cli.specs.commands.Link.{Link, SaysLink}
+use Rattle.am_cli.specs.commands.Show.{record_lines}
+use Rattle.am_cli.proofs.EndingLemmas.{SameEnds, StreamExcludes, same-reads, same-prints, same-streams}
+
+-- the command that a word names
+named : List ℕ → Option Kind
+named word =
+    cond (bytes_eq word (codes "link")) (Some Linking)
+    (cond (bytes_eq word (codes "show")) (Some Showing)
+    (cond (bytes_eq word (codes "check")) (Some Checking) None))
+
+verb-named : (k : Kind) → named (form k).verb ≡ Some k
+unfolding named
+verb-named Linking = refl
+verb-named Showing = refl
+verb-named Checking = refl
+
+-- the words of `link` by their parts
+abbrev made : ℕ → ℕ → ℕ → List ℕ → List ℕ → Link
+made block shift flow up down = record { block = block; shift = shift; flow = flow; up = up; down = down }
+
+link-once : (words : List (List ℕ)) (l k : Link) → SaysLink words l → SaysLink words k → l ≡ k
+link-once words l k s t =
+    let same = sym s.spelled ∙ t.spelled in
+    let block : l.block ≡ k.block = cc (same, s.numbers.block.value, t.numbers.block.value) in
+    let shift : l.shift ≡ k.shift = cc (same, s.numbers.shift.value, t.numbers.shift.value) in
+    let flow : l.flow ≡ k.flow = cc (same, s.numbers.flow.value, t.numbers.flow.value) in
+    let up : l.up ≡ k.up = cc (same) in
+    let down : l.down ≡ k.down = cc (same) in
+    ap (λ x. made x l.shift l.flow l.up l.down) block ∙ ap (λ x. made k.block x l.flow l.up l.down) shift
+    ∙ ap (λ x. made k.block k.shift x l.up l.down) flow ∙ ap (λ x. made k.block k.shift k.flow x l.down) up
+    ∙ ap (λ x. made k.block k.shift k.flow k.up x) down
+
+-- the words after the first say one thing
+once : (k : Kind) (words : List (List ℕ)) (a b : (form k).Asked) → (form k).says words a → (form k).says words b → a ≡ b
+once Linking words a b s t = link-once words a b s t
+once Showing words a b s t = let same : a.file ≡ b.file = cc (sym s.spelled ∙ t.spelled) in ap (λ f. record { file = f }) same
+once Checking words a b s t = let same : a.file ≡ b.file = cc (sym s.spelled ∙ t.spelled) in ap (λ f. record { file = f }) same
+
+-- two chains of one command come to one status
+pub settled : (t : Told) (k : Kind) (a : (form k).Asked) → Laws → SameEnds t ((form k).chain a) ((form k).chain a)
+settled t Linking a laws =
+    same-reads t a.up (JudgesCapture HopByHop) _ _ (laws.marks HopByHop)
+    (λ ups more p q. same-reads t a.down (JudgesCapture HopByHop) _ _ (laws.marks HopByHop) (λ downs less r s. same-prints t _ _))
+settled t Showing a laws =
+    let x : StreamExcludes record_lines = record { never = λ h ps p more reason text refused all. refused } in
+    same-streams t a.file record_lines laws.capture x
+settled t Checking a laws = same-reads t a.file JudgesDomain _ _ laws.domain (λ d e p q. same-prints t _ _)
+
+-- what holds of one command that the words are holds of the other
+pub says-once : (P : Command → Type 0) (words : List (List ℕ)) (c d : Command) → Says words c → Says words d → P c → P d
+says-once P words c d s t p =
+    let both : (form c.kind).verb ∷ s.rest ≡ (form d.kind).verb ∷ t.rest = sym s.verb ∙ t.verb in
+    let verbs : (form c.kind).verb ≡ (form d.kind).verb = cc (both) in
+    let rests : s.rest ≡ t.rest = cc (both) in
+    let some : Some c.kind ≡ Some d.kind = sym (verb-named c.kind) ∙ ap named verbs ∙ verb-named d.kind in
+    let kinds : c.kind ≡ d.kind = cc (some) in
+    let says : (form c.kind).says t.rest c.asked = subst (λ ws. (form c.kind).says ws c.asked) rests s.asked in
+    let here : (b : (form c.kind).Asked) → (form c.kind).says t.rest b → P (record { kind = c.kind; asked = b }) =
+    λ b other. subst (λ x. P (record { kind = c.kind; asked = x })) (once c.kind t.rest c.asked b says other) p in
+    subst (λ k. (b : (form k).Asked) → (form k).says t.rest b → P (record { kind = k; asked = b })) kinds here d.asked t.asked

@@ -1,0 +1,5 @@
+use Rattle.am_cli.proofs.RunLemmas.{two-exactly}
+use Rattle.am_cli.proofs.laws.laws.Goals as goal
+
+pub returns : goal.returns
+returns c = ?
