@@ -1,11 +1,11 @@
 -- How a capture comes to its file header, step by step.
-use Rattle.std.proofs.Common.{arith, refl, sym, ap, subst, ◌∙◌, ◌≡◌, ℕ, ◌+◌, ◌<◌, ◌≤◌, Bool, List, [], ◌∷◌, ◌++◌, length, take, drop, Option, Some, None, Err, append_assoc, inl, inr}
+use Rattle.std.proofs.Common.{arith, refl, sym, ap, subst, ◌∙◌, ◌≡◌, ℕ, ◌+◌, ◌<◌, ◌≤◌, Bool, List, [], ◌∷◌, ◌++◌, length, take, drop, Option, Some, None, append_assoc, inl, inr}
 use Rattle.std.proofs.lemmas.List.{length-append, append-nil, take-append-drop, take-append-le, length-drop, length-take}
 use Rattle.std.proofs.lemmas.Bool.{cases_lt}
 use Rattle.std.specs.Prelude.{IsSome, min}
 use Rattle.am_base.specs.Shelves.{Told, Takes, Opens}
 use Rattle.am_pcap.specs.Packets.{Packet, IsWhole, HoldsPackets}
-use Rattle.am_pcap.specs.Heads.{judged}
+use Rattle.am_pcap.specs.Heads.{IsHead, IsRefusedHead}
 use Rattle.am_pcap.specs.Captures.{Summary, HasSummary, IsTooLong}
 use Rattle.am_pcap.specs.Decoded.{Decoded, Took, Refused, Counts, nothing_taken}
 use Rattle.am_pcap.specs.Readings.{IsCut, most_read}
@@ -108,7 +108,7 @@ bad-parts bytes None count u taken None e rest s is few = absurd (cc (is))
 bad-parts bytes None count u taken (Some d) e rest s is few =
     let a : take 24 (bytes ++ rest) ≡ take 24 bytes = take-append-le 24 bytes rest s.split.whole in
     let same : d ≡ e = cc (is) in
-    inl (omega (arith, s.split.whole, length-append bytes rest), ap judged a ∙ s.split.bad ∙ ap Err same)
+    inl (omega (arith, s.split.whole, length-append bytes rest), subst (λ x. IsRefusedHead x (take 24 (bytes ++ rest))) same (subst (λ x. IsRefusedHead d x) (sym a) s.split.bad))
 bad-parts bytes (Some h) count u taken None e rest s is few = absurd (cc (is))
 bad-parts bytes (Some h) count u taken (Some d) e rest s is few =
     let long : IsTooLong h.form.big u = s.split.refused.0 in

@@ -5,7 +5,7 @@ pub mod Feeding
 pub mod Verdicts
 pub mod Spelled
 pub mod Forms
-pub mod Told
+pub mod Judged
 pub mod Refusals
 pub mod Shelved
 pub mod SeekSteps

@@ -4,7 +4,7 @@ use Rattle.std.proofs.lemmas.List.{length-append, append-nil, take-append-le, dr
 use Rattle.am_base.specs.Shelves.{Told, Takes, IsAtEnd}
 use Rattle.am_base.specs.Files.{OnFile, IsPartRead, KeepsFiles}
 use Rattle.am_pcap.specs.Packets.{Packet, HoldsPackets}
-use Rattle.am_pcap.specs.Heads.{judged}
+use Rattle.am_pcap.specs.Heads.{IsHead}
 use Rattle.am_pcap.specs.Captures.{Summary, HasSummary, HasRecords, IsCapture, IsRefusedAfter}
 use Rattle.am_pcap.specs.Decoded.{Decoded}
 use Rattle.am_pcap.specs.Seeking.{reading_of}
@@ -15,6 +15,7 @@ use Rattle.am_pcap.specs.declared.refusal.CapError.{CapError}
 use Rattle.am_pcap.specs.declared.head.Head.{Head}
 use Rattle.am_pcap.specs.declared.capture.FileError.{FileError}
 use Rattle.am_pcap.specs.declared.capture.FileError.TheVariants.{Missing, ReadFault, TooLong, Bad, Memory}
+use Rattle.am_pcap.proofs.Judged.{head-unique, head-not_refused}
 use Rattle.am_pcap.proofs.Shelved.{part-more, part-keeps}
 use Rattle.am_pcap.proofs.Splitting.{packets-append}
 
@@ -33,7 +34,7 @@ begins-append bytes more h ps rest b =
     let d : drop 24 (bytes ++ more) ≡ drop 24 bytes ++ more = drop-append-le 24 bytes more b.whole in
     record {
       whole = omega (arith, b.whole, length-append bytes more);
-      head = ap judged a ∙ b.head;
+      head = subst (λ x. IsHead h x) (sym a) b.head;
       records = subst (λ x. HoldsPackets h.form.big x ps (rest ++ more)) (sym d) (packets-append h.form.big (drop 24 bytes) ps rest more b.records);
     }
 
@@ -108,9 +109,9 @@ records-parts :
     → HasSummary bytes ps (record { head = head; count = count; unfinished = u; taken = taken; error = e }) → HasHead bytes h
     → HasRecords bytes ps u h e
 records-parts bytes ps None count u taken None h s is = absurd (omega (arith, is.whole, s.split.short))
-records-parts bytes ps None count u taken (Some e) h s is = absurd (cc (is.head, s.split.bad))
+records-parts bytes ps None count u taken (Some e) h s is = absurd (head-not_refused (take 24 bytes) h e is.head s.split.bad)
 records-parts bytes ps (Some k) count u taken e h s is =
-    let same : k ≡ h = cc (s.split.head, is.head) in subst (λ x. HasRecords bytes ps u x e) same s.split
+    let same : k ≡ h = head-unique (take 24 bytes) k h s.split.head is.head in subst (λ x. HasRecords bytes ps u x e) same s.split
 
 -- a read failed: behind the file header stand the records that were given, and then no other whole one
 stops-fault :
@@ -153,7 +154,7 @@ stops-refused old first before after name h ps e on r =
     record {
       begins = b;
       refused = refused-in (on.bytes ++ r.more) rest e ps w.0 (λ cut. end (w.1 cut)) w.2;
-      only = λ k is. cc (is.head, b.all.head);
+      only = λ k is. head-unique (take 24 ((on.bytes ++ r.more) ++ rest)) k h is.head b.all.head;
     })
 
 stops-so :

@@ -1,9 +1,9 @@
 -- What stands in the bytes of a capture's file, and what a capture that is read on has given of them.
-use Rattle.std.specs.Prelude.{◌≡◌, ◌⊎◌, ℕ, ◌<◌, ◌≤◌, Bool, false, nat_le, List, [], ◌++◌, length, take, drop, Option, Some, Ok, Err}
+use Rattle.std.specs.Prelude.{◌≡◌, ◌⊎◌, ℕ, ◌<◌, ◌≤◌, Bool, false, nat_le, List, [], ◌++◌, length, take, drop, Option, Some}
 use Rattle.am_base.specs.Shelves.{Told, IsAbsent, IsAtEnd, Closes}
 use Rattle.am_base.specs.Files.{OnFile, IsPartRead, KeepsFiles}
 use Rattle.am_pcap.specs.Packets.{Packet, HoldsPackets}
-use Rattle.am_pcap.specs.Heads.{judged}
+use Rattle.am_pcap.specs.Heads.{IsHead, IsRefusedHead}
 use Rattle.am_pcap.specs.Captures.{IsCapture, HasRecords, IsRefusedAfter}
 use Rattle.am_pcap.specs.Readings.{Reading, HasGiven, IsCut, most_read}
 use Rattle.am_pcap.specs.declared.refusal.CapError.{CapError}
@@ -19,12 +19,12 @@ is_whole p = nat_le p.original (length p.bytes)
 -- the bytes begin with this file header
 pub record HasHead (bytes : List ℕ) (h : Head) : Type 0 where
   pub whole : 24 ≤ length bytes
-  pub head : judged (take 24 bytes) ≡ Ok h
+  pub head : IsHead h (take 24 bytes)
 
 -- the bytes begin with this file header and whole records of these packets, and then comes the rest
 pub record Begins (bytes : List ℕ) (h : Head) (ps : List Packet) (rest : List ℕ) : Type 0 where
   pub whole : 24 ≤ length bytes
-  pub head : judged (take 24 bytes) ≡ Ok h
+  pub head : IsHead h (take 24 bytes)
   pub records : HoldsPackets h.form.big (drop 24 bytes) ps rest
 
 -- the bytes begin so, and a front of at most 2^40 of them does
@@ -58,7 +58,7 @@ pub record IsRefusedIn (bytes : List ℕ) (e : CapError) (ps : List Packet) : Ty
 
 -- the file header is refused so, or the bytes end in it
 abbrev pub IsRefusedHeader : List ℕ → CapError → Type 0
-IsRefusedHeader bytes e = ((24 ≤ length bytes) × (judged (take 24 bytes) ≡ Err e)) ⊎ ((length bytes < 24) × (e ≡ CutFile 0))
+IsRefusedHeader bytes e = ((24 ≤ length bytes) × IsRefusedHead e (take 24 bytes)) ⊎ ((length bytes < 24) × (e ≡ CutFile 0))
 
 -- a capture of this file is read on: bytes of the file, as the shelf told it before, were read, their file header is this,
 -- and the whole records that were given of them have these packets
