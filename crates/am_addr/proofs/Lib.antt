@@ -5,3 +5,4 @@ pub mod Bytes
 pub mod Slash
 pub mod Runs
 pub mod ReadBack
+pub mod TextAlone

@@ -91,7 +91,8 @@ pub(crate) fn check_repeats(fields: &Fields) -> Result<(), DomainError>
 /// The links by the numbers of their nodes, where each end is a node.
 pub(crate) fn check_ends(alloc: Global, fields: &Fields) -> Result<Vec<Edge>, DomainError>
     requires { KeepsFirst fields.now 7 }
-    ensures joined { IfOk result (λ edges. AllZip (Joins fields.now.nodes) fields.now.links edges.items) }
+    ensures joined { IfOk result (λ edges.
+        AllZip (Joins fields.now.nodes) fields.now.links edges.items) }
     ensures ok { OnOk result (KeepsFirst fields.now 8) }
     ensures err { IfErr result (λ e. TellsBroken fields.now e) }
 {
