@@ -116,7 +116,7 @@ stop-comes before after old new name judge next WriteFault h = absurd h
 stop-comes before after old new name judge next NoMemory h = tt
 
 -- a count that rose later rose
-rose-later : (a b c : ℕ) → a ≤ b → Rose b c → Rose a c
+pub rose-later : (a b c : ℕ) → a ≤ b → Rose b c → Rose a c
 rose-later a b c le rose = grind arith
 
 later-comes :
@@ -179,10 +179,10 @@ comes before after old new (Writes last is) answer h = pieces-come before after 
 comes before after old new (Streams name stream) answer h = stream-comes before after old new name stream answer h
 
 -- what was appended is a front of itself
-whole-front : (old new : Option (List ℕ)) (text : List ℕ) → new ≡ append_known old text → AppendsFront old new text
+pub whole-front : (old new : Option (List ℕ)) (text : List ℕ) → new ≡ append_known old text → AppendsFront old new text
 whole-front old new text h = (length text, omega arith, h ∙ ap (λ x. append_known old x) (sym (take-length text)))
 
-nothing : (w : Option (List ℕ)) → w ≡ append_known w []
+pub nothing : (w : Option (List ℕ)) → w ≡ append_known w []
 nothing None = refl
 nothing (Some xs) = ap Some (sym (append-nil xs))
 

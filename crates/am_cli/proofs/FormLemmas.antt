@@ -68,3 +68,15 @@ says-once P words c d s t p =
     let here : (b : (form c.kind).Asked) → (form c.kind).says t.rest b → P (record { kind = c.kind; asked = b }) =
     λ b other. subst (λ x. P (record { kind = c.kind; asked = x })) (once c.kind t.rest c.asked b says other) p in
     subst (λ k. (b : (form k).Asked) → (form k).says t.rest b → P (record { kind = k; asked = b })) kinds here d.asked t.asked
+
+-- a word names one command; where what follows it says nothing of it, the words are no command
+pub none-named :
+    (k : Kind) (verb : List ℕ) (words : List (List ℕ)) → verb ≡ (form k).verb → ((a : (form k).Asked) → (form k).says words a → ⊥)
+    → IsNoCommand (verb ∷ words)
+none-named k verb words is none = λ c s.
+    let verbs : (form k).verb ≡ (form c.kind).verb = cc (s.verb, is) in
+    let rests : s.rest ≡ words = cc (s.verb) in
+    let some : Some k ≡ Some c.kind = sym (verb-named k) ∙ ap named verbs ∙ verb-named c.kind in
+    let kinds : k ≡ c.kind = cc (some) in
+    let says : (form c.kind).says words c.asked = subst (λ ws. (form c.kind).says ws c.asked) rests s.asked in
+    subst (λ j. (a : (form j).Asked) → (form j).says words a → ⊥) kinds none c.asked says

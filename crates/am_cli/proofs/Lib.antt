@@ -5,3 +5,7 @@ pub mod ChainLemmas
 pub mod EndingLemmas
 pub mod FormLemmas
 pub mod RunLemmas
+pub mod InputLemmas
+pub mod StreamLemmas
+pub mod LinkLemmas
+pub mod WordLemmas

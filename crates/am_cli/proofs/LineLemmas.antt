@@ -55,18 +55,18 @@ flows_more fs i f l0 l1 l2 within is before next =
 -- one more line of a node
 node_lines-more :
     (d : DomainValue) (number : ℕ) (ns : List NodeValue) (n : NodeValue) (last : ℕ) → last ≡ number + length ns
-    → node_lines d number (ns ++ n ∷ []) ≡ node_lines d number ns ++ node_line n (shift_at d.times d.links last)
+    → node_lines d number (ns ++ n ∷ []) ≡ node_lines d number ns ++ node_line n (shift_at d.times d.nodes d.links last)
 node_lines-more d number [] n last is =
     let same : number ≡ last = omega (arith, is) in
-    append-nil (node_line n (shift_at d.times d.links number)) ∙ ap (λ k. node_line n (shift_at d.times d.links k)) same
+    append-nil (node_line n (shift_at d.times d.nodes d.links number)) ∙ ap (λ k. node_line n (shift_at d.times d.nodes d.links k)) same
 node_lines-more d number (m ∷ ms) n last is =
-    ap (λ x. node_line m (shift_at d.times d.links number) ++ x) (node_lines-more d (number + 1) ms n last (omega (arith, is)))
-    ∙ sym (append_assoc (node_line m (shift_at d.times d.links number)) (node_lines d (number + 1) ms) (node_line n (shift_at d.times d.links last)))
+    ap (λ x. node_line m (shift_at d.times d.nodes d.links number) ++ x) (node_lines-more d (number + 1) ms n last (omega (arith, is)))
+    ∙ sym (append_assoc (node_line m (shift_at d.times d.nodes d.links number)) (node_lines d (number + 1) ms) (node_line n (shift_at d.times d.nodes d.links last)))
 
 -- the lines of the nodes so far, and of the next
 pub nodes_more :
     (d : DomainValue) (nodes : List NodeValue) (i : ℕ) (n : NodeValue) (shift : ℕ) (l0 l1 l2 : List ℕ)
-    → nodes ≡ d.nodes → i < length nodes → n ≡ get_or nodes i n → shift ≡ shift_at d.times d.links i
+    → nodes ≡ d.nodes → i < length nodes → n ≡ get_or nodes i n → shift ≡ shift_at d.times d.nodes d.links i
     → l1 ≡ l0 ++ node_lines d 0 (take i d.nodes) → l2 ≡ l1 ++ node_line n shift
     → l2 ≡ l0 ++ node_lines d 0 (take (i + 1) d.nodes)
 nodes_more d nodes i n shift l0 l1 l2 same within is shifted before next =
@@ -74,7 +74,7 @@ nodes_more d nodes i n shift l0 l1 l2 same within is shifted before next =
     let here : n ≡ get_or d.nodes i n = is ∙ ap (λ x. get_or x i n) same in
     let front : take i d.nodes ++ n ∷ [] ≡ take (i + 1) d.nodes = ap (λ x. take i d.nodes ++ x ∷ []) here ∙ sym (take_more d.nodes i n inside) in
     let long : i ≡ 0 + length (take i d.nodes) = omega (arith, length-take i d.nodes, inside) in
-    let lines : node_lines d 0 (take i d.nodes) ++ node_line n (shift_at d.times d.links i) ≡ node_lines d 0 (take (i + 1) d.nodes) =
+    let lines : node_lines d 0 (take i d.nodes) ++ node_line n (shift_at d.times d.nodes d.links i) ≡ node_lines d 0 (take (i + 1) d.nodes) =
     sym (node_lines-more d 0 (take i d.nodes) n i long) ∙ ap (λ x. node_lines d 0 x) front in
     next ∙ ap (λ x. x ++ node_line n shift) before ∙ append_assoc l0 (node_lines d 0 (take i d.nodes)) (node_line n shift)
     ∙ ap (λ x. l0 ++ (node_lines d 0 (take i d.nodes) ++ node_line n x)) shifted ∙ ap (λ x. l0 ++ x) lines

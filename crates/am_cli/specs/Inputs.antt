@@ -1,8 +1,8 @@
 -- The inputs that commands take whole: how the bytes of each are judged.
 use Rattle.std.specs.Prelude.{◌≡◌, ℕ, ◌<◌, ◌≤◌, List, length, Result, Ok, Err}
 use Rattle.am_ip6.specs.declared.marks.Place.{Place}
-use Rattle.am_domain.specs.Domains.{DomainValue}
-use Rattle.am_cli.specs.MeterStub.{Marked, MarksRefusal, JudgesMarks, IsDomainOf, IsDomainRefusal}
+use Rattle.am_domain.specs.Domains.{DomainValue, IsDomainOf, IsDomainRefusal}
+use Rattle.am_cli.specs.MeterStub.{Marked, MarksRefusal, JudgesMarks}
 use Rattle.am_cli.specs.MeterStub.MarksRefusal.{LongFile, BadFile, CutHeaders}
 use Rattle.am_cli.specs.Answers.{Reason}
 use Rattle.am_cli.specs.Answers.Reason.{TooLong, BadCapture, HeadersCut, BadDomain}

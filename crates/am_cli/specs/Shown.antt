@@ -4,6 +4,8 @@ use Rattle.am_base.specs.declared.file.FileFault.{FileFault}
 use Rattle.am_base.specs.declared.file.FileFault.TheVariants as whole
 use Rattle.am_pcap.specs.declared.capture.FileError.{FileError}
 use Rattle.am_pcap.specs.declared.capture.FileError.TheVariants as capture
+use Rattle.am_domain.specs.declared.error.DomainError.{DomainError}
+use Rattle.am_domain.specs.declared.error.DomainError.TheVariants as domain
 use Rattle.am_cli.specs.Answers as said
 use Rattle.am_cli.specs.Answers.{Answer, Ending}
 use Rattle.am_cli.specs.Chains.{Inputs, Judged, Follows, StopsAt}
@@ -84,6 +86,11 @@ capture_answer name capture.ReadFault = said.Answer.ReadFault name
 capture_answer name capture.TooLong = said.Answer.Ended (said.Ending.Refused (Some name) said.Reason.TooLong)
 capture_answer name (capture.Bad error) = said.Answer.Ended (said.Ending.Refused (Some name) (said.Reason.BadCapture error))
 capture_answer name capture.Memory = said.Answer.NoMemory
+
+-- the answer where the bytes of this file are no domain file
+abbrev pub domain_answer : List ℕ → DomainError → Answer
+domain_answer name domain.Memory = said.Answer.NoMemory
+domain_answer name error = said.Answer.Ended (said.Ending.Refused (Some name) (said.Reason.BadDomain error))
 
 -- what a function answers that takes the file of this name: a value that stands for what is taken of it, or a stop at it
 abbrev pub Takes :

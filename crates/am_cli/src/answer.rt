@@ -2,7 +2,7 @@
 ghost use Rattle.std.specs.Prelude.{◌≡◌, ◌++◌, Some, IfOk, OnOk, option_map, string_bytes, codes, decimal};
 ghost use Rattle.am_cli.specs.Answers as said;
 ghost use Rattle.am_cli.specs.Answers.{said_of, refusal_line, subject, reason_text, capture_text, line, status};
-ghost use Rattle.am_cli.specs.Shown.{reason_shown, stop_shown, IsAnswer, file_answer, capture_answer};
+ghost use Rattle.am_cli.specs.Shown.{reason_shown, stop_shown, IsAnswer, file_answer, capture_answer, domain_answer};
 
 use crate::domain_line::push_error;
 use am_base::FileFault;
@@ -103,6 +103,16 @@ impl Stop {
             FileError::TooLong => Stop::refused(alloc, name, Reason::TooLong),
             FileError::Bad(error) => Stop::refused(alloc, name, Reason::BadCapture { error }),
             FileError::Memory => Stop::NoMemory,
+        }
+    }
+
+    /// The bytes of this file are no domain file.
+    pub fn of_domain(alloc: Global, name: &str, error: DomainError) -> Stop
+        ensures { IsAnswer (domain_answer name.now error) (stop_shown result) }
+    {
+        match error {
+            DomainError::Memory => Stop::NoMemory,
+            _ => Stop::refused(alloc, name, Reason::BadDomain { error }),
         }
     }
 

@@ -4,9 +4,9 @@ ghost use Rattle.am_cli.specs.Chains.{inputs};
 ghost use Rattle.am_cli.specs.Inputs.{JudgesDomain};
 ghost use Rattle.am_cli.specs.Shown.{Takes};
 
-use crate::answer::{Reason, Stop};
+use crate::answer::Stop;
 use am_base::{Shelf, read_file};
-use am_domain::{Domain, DomainError, read_domain};
+use am_domain::{Domain, read_domain};
 use std::alloc::Global;
 
 /// The most bytes of a domain file: 1 MiB. A domain of the greatest size takes a quarter of that.
@@ -26,7 +26,6 @@ pub fn take_domain<S: Shelf>(alloc: Global, shelf: &mut S, name: &str) -> Result
     };
     match read_domain(alloc, &bytes) {
         Ok(domain) => Ok(domain),
-        Err(DomainError::Memory) => Err(Stop::NoMemory),
-        Err(error) => Err(Stop::refused(alloc, name, Reason::BadDomain { error })),
+        Err(error) => Err(Stop::of_domain(alloc, name, error)),
     }
 }

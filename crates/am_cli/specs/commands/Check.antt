@@ -48,7 +48,7 @@ node_line n shift =
 -- the lines of nodes, numbered from here
 abbrev pub node_lines : DomainValue → ℕ → List NodeValue → List ℕ
 node_lines d number [] = []
-node_lines d number (n ∷ ns) = node_line n (shift_at d.times d.links number) ++ node_lines d (number + 1) ns
+node_lines d number (n ∷ ns) = node_line n (shift_at d.times d.nodes d.links number) ++ node_lines d (number + 1) ns
 
 -- the name of the node of this number
 abbrev pub name_of : List NodeValue → ℕ → List ℕ

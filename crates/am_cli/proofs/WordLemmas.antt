@@ -1,0 +1,32 @@
+-- Words in a list.
+use Rattle.std.proofs.Common.{◌≡◌, ℕ, ◌<◌, ◌≤◌, ◌-◌, List, [], ◌∷◌, length, get_or, take, drop, map, refl, ap, ◌∙◌, arith}
+use Rattle.std.proofs.Math.Seq.{take-length}
+
+-- a list that isn't empty is its first word and the rest
+pub first-and-rest :
+    {A : Type 0} (f : A → List ℕ) (ws : List A) (p : A) (w : List ℕ)
+    → 1 ≤ length ws → p ≡ get_or ws 0 p → w ≡ f p → w ∷ map f (take (length ws - 1) (drop 1 ws)) ≡ map f ws
+first-and-rest f [] p w low = absurd (omega arith)
+first-and-rest f (a ∷ ws) p w low = λ ip iw.
+    let e : length (a ∷ ws) - 1 ≡ length ws = omega arith in
+    let t : take (length (a ∷ ws) - 1) ws ≡ ws = ap (λ n. take n ws) e ∙ take-length ws in
+    ap (λ x. x ∷ map f (take (length (a ∷ ws) - 1) ws)) (iw ∙ ap f ip) ∙ ap (λ x. f a ∷ map f x) t
+
+-- a list of five is its five elements
+pub five :
+    {A : Type 0} (f : A → List ℕ) (ws : List A) (p q r s t : A)
+    → 5 ≤ length ws
+    → length ws < 6
+    → p ≡ get_or ws 0 p
+    → q ≡ get_or ws 1 q
+    → r ≡ get_or ws 2 r
+    → s ≡ get_or ws 3 s
+    → t ≡ get_or ws 4 t
+    → map f ws ≡ f p ∷ f q ∷ f r ∷ f s ∷ f t ∷ []
+five f [] p q r s t low high = absurd (omega arith)
+five f (a ∷ []) p q r s t low high = absurd (omega arith)
+five f (a ∷ b ∷ []) p q r s t low high = absurd (omega arith)
+five f (a ∷ b ∷ c ∷ []) p q r s t low high = absurd (omega arith)
+five f (a ∷ b ∷ c ∷ d ∷ []) p q r s t low high = absurd (omega arith)
+five f (a ∷ b ∷ c ∷ d ∷ e ∷ []) p q r s t low high = λ ip iq ir is it. cc
+five f (a ∷ b ∷ c ∷ d ∷ e ∷ g ∷ more) p q r s t low high = absurd (omega arith)

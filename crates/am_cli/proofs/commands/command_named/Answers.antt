@@ -1,0 +1,16 @@
+use Rattle.std.proofs.Common.{◌≡◌, rules, codes}
+use Rattle.am_cli.specs.Forms.Kind.{Linking, Showing, Checking}
+use Rattle.am_cli.proofs.FormLemmas.{none-named}
+use Rattle.am_cli.proofs.commands.command_named.Goals as goal
+
+pub returns-in_default-clause-none : goal.returns-in_default-clause-none
+returns-in_default-clause-none c =
+    let verb : c.args.verb.now ≡ codes "link" = search rules in none-named Linking c.args.verb.now _ verb c.in_default.ensures.none
+
+pub returns-in_default-words_of-clause-none : goal.returns-in_default-words_of-clause-none
+returns-in_default-words_of-clause-none c =
+    let verb : c.args.verb.now ≡ codes "show" = search rules in none-named Showing c.args.verb.now _ verb c.in_default-words_of.ensures.none
+
+pub returns-in_default-words_of-2-clause-none : goal.returns-in_default-words_of-2-clause-none
+returns-in_default-words_of-2-clause-none c =
+    let verb : c.args.verb.now ≡ codes "check" = search rules in none-named Checking c.args.verb.now _ verb c.in_default-words_of-2.ensures.none
