@@ -1,0 +1,4 @@
+pub mod Sums
+pub mod ViewLemmas
+pub mod Keeping
+pub mod Adding
