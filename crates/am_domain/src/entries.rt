@@ -99,6 +99,7 @@ fn read_items<T: Entry + Drop>(alloc: Global, items: &[Value]) -> Result<Vec<T>,
                 };
             }
             Err(ItemFault::Bad(key)) => {
+                // The place always fits: see `too_many` in `judge`.
                 let Ok(index) = u32::try_from(i) else {
                     return Err(EntryFault::Memory);
                 };

@@ -18,6 +18,7 @@ mod judge;
 mod keys;
 mod laws;
 mod link;
+mod message;
 mod network;
 mod node;
 mod repeats;
