@@ -58,7 +58,7 @@ by-summary bytes ps qs s t r p q is =
     let same = summary-unique bytes ps qs s t p q in
     ap verdict same.1 ∙ is
 
-bad_record-summary :
+pub bad_record-summary :
     (bytes : List ℕ) (e : CapError) (h : Head) (qs : List Packet) (rest : List ℕ) → 24 ≤ length bytes → IsHead h (take 24 bytes)
     → HoldsPackets h.form.big (drop 24 bytes) qs rest → (IsWhole h.form.big rest → ⊥) → WhyRefused h.form.big (length qs + 1) rest e
     → (t : Summary) × HasSummary bytes qs t × (verdict t ≡ Err e)

@@ -71,8 +71,10 @@ impl Capture {
     pub fn open<S: Shelf>(alloc: Global, shelf: &mut S, name: &str) -> Result<Capture, FileError>
         ensures reads { IfOk result (λ c. (h : Head) × (c.decoded.summary.head ≡ Some h)
             × ReadsOn (S.told shelf.old) (S.told shelf.new) name.now c h []) }
-        ensures refused { IfErr result (λ e. WhyNotOpened (S.told shelf.old) (S.told shelf.new) name.now e) }
-        ensures missing { IsErrOf result Missing → (Rose (S.missed shelf.old) (S.missed shelf.new)) × IsAbsent (S.told shelf.old) name.now }
+        ensures refused { IfErr result (λ e.
+            WhyNotOpened (S.told shelf.old) (S.told shelf.new) name.now e) }
+        ensures missing { IsErrOf result Missing
+            → Rose (S.missed shelf.old) (S.missed shelf.new) × IsAbsent (S.told shelf.old) name.now }
         ensures read_fault { IsErrOf result ReadFault → Rose (S.faults shelf.old) (S.faults shelf.new) }
         ensures files { KeepsFiles (S.told shelf.old) (S.told shelf.new) }
         ensures faults_stay { S.faults shelf.old ≤ S.faults shelf.new }
@@ -116,13 +118,19 @@ impl Capture {
     /// other error comes, and behind None or an error nothing may be asked.
     pub fn next<S: Shelf>(&mut self, shelf: &mut S) -> Result<Option<Record<'_>>, FileError>
         requires { self.old.over ≡ false }
-        ensures* leaves { sem 𝓛 (LeavesGiven self.entry self.old (S.told shelf.old) (S.told shelf.new) result) }
-        ensures number { IfOk result (λ o. IfSome o (λ r. r.number ≡ self.old.decoded.summary.count + 1)) }
+        ensures* leaves { sem 𝓛
+            (LeavesGiven self.entry self.old (S.told shelf.old) (S.told shelf.new) result) }
+        ensures number { IfOk result (λ o. IfSome o (λ r.
+            r.number ≡ self.old.decoded.summary.count + 1)) }
         ensures few { IfOk result (λ o. IfSome o (λ r. r.number ≤ 2 ^ 36)) }
-        ensures ended { IfOk result (λ o. IfNone o (EndsReading self.old (S.told shelf.old) (S.told shelf.new))) }
-        ensures at_end { IfOk result (λ o. IfNone o (GivesEnd self.old (S.told shelf.old) (S.told shelf.new))) }
-        ensures refused { IfErr result (λ e. StopsReading self.old (S.told shelf.old) (S.told shelf.new) e) }
-        ensures error { IfErr result (λ e. GivesError self.old (S.told shelf.old) (S.told shelf.new) e) }
+        ensures ended { IfOk result (λ o.
+            IfNone o (EndsReading self.old (S.told shelf.old) (S.told shelf.new))) }
+        ensures at_end { IfOk result (λ o.
+            IfNone o (GivesEnd self.old (S.told shelf.old) (S.told shelf.new))) }
+        ensures refused { IfErr result (λ e.
+            StopsReading self.old (S.told shelf.old) (S.told shelf.new) e) }
+        ensures error { IfErr result (λ e.
+            GivesError self.old (S.told shelf.old) (S.told shelf.new) e) }
         ensures read_fault { IsErrOf result ReadFault → Rose (S.faults shelf.old) (S.faults shelf.new) }
         ensures faults_stay { S.faults shelf.old ≤ S.faults shelf.new }
         ensures missed_stay { S.missed shelf.old ≤ S.missed shelf.new }
