@@ -1,5 +1,5 @@
 -- Counts of what went wrong. A count never falls, and stands still at the end of a u64.
-use Rattle.std.specs.Prelude.{ℕ, ◌+◌, ◌-◌, ◌^◌, ◌≤◌, min}
+use Rattle.std.specs.Prelude.{◌≡◌, ℕ, ◌+◌, ◌-◌, ◌^◌, ◌<◌, ◌⊎◌, min}
 
 -- the last value of a count
 abbrev pub last_count : ℕ
@@ -11,4 +11,4 @@ next_count n = min (n + 1) last_count
 
 -- a count rose in a call: it is greater after it than before, or stands at its last value
 abbrev pub Rose : ℕ → ℕ → Type 0
-Rose before after = next_count before ≤ after
+Rose before after = (before < after) ⊎ (after ≡ last_count)

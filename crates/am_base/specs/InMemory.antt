@@ -1,9 +1,8 @@
 -- What a shelf in memory holds.
-use Rattle.std.specs.Prelude.{◌≡◌, refl, ℕ, List, [], map, drop, Option, Some, None, Result, Ok, Err, slice_index_or, String, string_bytes, Vec}
-use Rattle.am_base.specs.Counts.{next_count}
+use Rattle.std.proofs.Common.{sym}
+use Rattle.std.proofs.lemmas.Option.{none-some}
+use Rattle.std.specs.Prelude.{◌≡◌, refl, ℕ, List, [], map, drop, Option, Some, None, slice_index_or, String, string_bytes, Vec}
 use Rattle.am_base.specs.Shelves.{File, Told}
-use Rattle.am_base.specs.declared.shelf.OpenError.{OpenError}
-use Rattle.am_base.specs.declared.shelf.OpenError.TheVariants.{Missing, Failed}
 use Rattle.am_base.specs.declared.mem_shelf.Place.{Place}
 use Rattle.am_base.specs.declared.mem_shelf.MemShelf.{MemShelf}
 
@@ -58,18 +57,7 @@ pub record FailsAlike (old new : MemShelf) : Type 0 where
   pub opens : failing_opens new ≡ failing_opens old
   pub reads : failing_reads new ≡ failing_reads old
 
--- the counts after an open with this answer
-abbrev pub faults_after_open : {T : Type 0} → Result T OpenError → ℕ → ℕ
-faults_after_open (Ok _) n = n
-faults_after_open (Err Missing) n = n
-faults_after_open (Err Failed) n = next_count n
-
-abbrev pub missed_after_open : {T : Type 0} → Result T OpenError → ℕ → ℕ
-missed_after_open (Ok _) n = n
-missed_after_open (Err Missing) n = next_count n
-missed_after_open (Err Failed) n = n
-
 -- with no file open nothing is left to read
 pub closed_rest : (files : List File) (o : Option Place) → name_at files o ≡ None → rest_at files o ≡ []
 closed_rest files None h = refl
-closed_rest files (Some p) h = absurd (cc)
+closed_rest files (Some p) h = absurd (none-some _ (sym h))

@@ -1,8 +1,8 @@
 //! A whole file of a shelf.
-ghost use Rattle.std.specs.Prelude.{◌≡◌, ◌≤◌, ◌<◌, ◌+◌, ◌++◌, ℕ, List, length, IfOk, OnOk, IsErrOf, vec_len};
+ghost use Rattle.std.specs.Prelude.{◌≡◌, ◌≤◌, ◌<◌, ◌++◌, ℕ, List, length, IfOk, IfErr, OnOk, IsErrOf, vec_len};
 ghost use Rattle.am_base.specs.Counts.{Rose};
 ghost use Rattle.am_base.specs.Shelves.{IsAbsent, Takes, IsAtEnd};
-ghost use Rattle.am_base.specs.Files.{HasFile, IsLonger, KeepsFiles};
+ghost use Rattle.am_base.specs.Files.{HasFile, IsLonger, IsWholeRead, WhyNotRead, WhyNoMore, KeepsFiles};
 ghost use Rattle.am_base.specs.declared.file.FileFault.TheVariants.{Missing, ReadFault, TooLong};
 
 use crate::shelf::{Fault, OpenError, Shelf};
@@ -36,8 +36,15 @@ pub fn read_file<S: Shelf>(
     limit: u32,
 ) -> Result<Vec<u8>, FileFault>
     ensures bytes { IfOk result (λ v. HasFile (S.told shelf.old) name.now v.items) }
+    ensures whole { IfOk result (λ v.
+        IsWholeRead (S.told shelf.old) (S.told shelf.new) name.now v.items) }
     ensures bound { IfOk result (λ v. vec_len v ≤ limit) }
-    ensures missing { IsErrOf result Missing → (Rose (S.missed shelf.old) (S.missed shelf.new)) × IsAbsent (S.told shelf.old) name.now }
+
+    // Each refusal has its cause, and leaves of the shelf what it says.
+    ensures refused { IfErr result (λ fault.
+        WhyNotRead (S.told shelf.old) (S.told shelf.new) name.now limit fault) }
+    ensures missing { IsErrOf result Missing →
+        Rose (S.missed shelf.old) (S.missed shelf.new) × IsAbsent (S.told shelf.old) name.now }
     ensures read_fault { IsErrOf result ReadFault → Rose (S.faults shelf.old) (S.faults shelf.new) }
     ensures too_long { IsErrOf result TooLong → IsLonger (S.told shelf.old) name.now limit }
     ensures files { KeepsFiles (S.told shelf.old) (S.told shelf.new) }
@@ -78,12 +85,14 @@ fn read_more<S: Shelf>(
 ) -> Result<usize, FileFault>
     requires room { 0 < length chunk.old }
     requires bound { vec_len bytes.old ≤ limit }
-    ensures added { IfOk result (λ n. (piece : List ℕ) × (length piece ≡ n) × Takes (S.told shelf.old) (S.told shelf.new) piece × (bytes.new.items ≡ bytes.old.items ++ piece)) }
-    ensures bound { OnOk result (vec_len bytes.new ≤ limit) }
+    ensures added { IfOk result (λ n. (piece : List ℕ) × (length piece ≡ n)
+        × Takes (S.told shelf.old) (S.told shelf.new) piece
+        × (bytes.new.items ≡ bytes.old.items ++ piece)) }
+    ensures within { OnOk result (vec_len bytes.new ≤ limit) }
     ensures end { IfOk result (λ n. n ≡ 0 → IsAtEnd (S.told shelf.old)) }
-    ensures too_long { IsErrOf result TooLong → (piece : List ℕ) × Takes (S.told shelf.old) (S.told shelf.new) piece × (limit < vec_len bytes.old + length piece) }
+    ensures refused { IfErr result (λ fault.
+        WhyNoMore (S.told shelf.old) (S.told shelf.new) (vec_len bytes.old) limit fault) }
     ensures read_fault { IsErrOf result ReadFault → Rose (S.faults shelf.old) (S.faults shelf.new) }
-    ensures not_missing { ¬ (IsErrOf result Missing) }
     ensures files { KeepsFiles (S.told shelf.old) (S.told shelf.new) }
     ensures faults_stay { S.faults shelf.old ≤ S.faults shelf.new }
     ensures missed_stay { S.missed shelf.old ≤ S.missed shelf.new }

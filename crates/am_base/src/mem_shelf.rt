@@ -2,8 +2,8 @@
 ghost use Rattle.std.specs.Prelude.{◌≡◌, ◌≤◌, ◌<◌, ◌+◌, ◌^◌, ◌↔◌, ℕ, [], length, take, OnOk, OnErr, IfOk, IfSome, IfNone, IsErr, IsErrOf, IsTrue, Some, None, min};
 ghost use Rattle.am_base.specs.Counts.{Rose, next_count};
 ghost use Rattle.am_base.specs.Shelves.{Opens, Closes, IsAbsent, Takes, IsAtEnd, file_named};
-ghost use Rattle.am_base.specs.InMemory.{as_files, file_at, rest_at, shelf_told, shelf_faults, shelf_missed, opens_asked, reads_asked, failing_opens, failing_reads, FailsAlike, faults_after_open, missed_after_open, closed_rest};
-ghost use Rattle.am_base.specs.Failing.{is_bad, faults_after};
+ghost use Rattle.am_base.specs.InMemory.{as_files, file_at, rest_at, shelf_told, shelf_faults, shelf_missed, opens_asked, reads_asked, failing_opens, failing_reads, FailsAlike, closed_rest};
+ghost use Rattle.am_base.specs.Failing.{is_bad, faults_after, faults_after_open, missed_after_open};
 ghost use Rattle.am_base.specs.declared.shelf.OpenError.TheVariants.{Missing, Failed};
 
 use crate::failing::is_listed;
@@ -33,7 +33,8 @@ impl MemShelf {
     /// A shelf of these files, of which none is open. Of two files of one name the first is found. The opens and the
     /// reads of these numbers, each counted from 1, fail.
     pub fn new(files: Vec<(String, Vec<u8>)>, bad_opens: Vec<u64>, bad_reads: Vec<u64>) -> MemShelf
-        ensures told { shelf_told result ≡ record { files = as_files files.items; open_name = None; rest = [] } }
+        ensures told { shelf_told result
+            ≡ record { files = as_files files.items; open_name = None; rest = [] } }
         ensures faults { shelf_faults result ≡ 0 }
         ensures missed { shelf_missed result ≡ 0 }
         ensures opens { opens_asked result ≡ 0 }
@@ -64,18 +65,26 @@ impl Shelf for MemShelf {
     ghost closed_is_empty = { λ s h. closed_rest (as_files s.files.items) s.open h };
 
     fn open(&mut self, name: &str) -> Result<(), OpenError>
-        ensures opened { OnOk result (Opens (Some (shelf_told self.old)) (Some (shelf_told self.new)) name.now) }
-        ensures closed { OnErr result (Closes (Some (shelf_told self.old)) (Some (shelf_told self.new))) }
-        ensures missing { IsErrOf result Missing → (Rose (shelf_missed self.old) (shelf_missed self.new)) × IsAbsent (Some (shelf_told self.old)) name.now }
-        ensures failed { IsErrOf result Failed → Rose (shelf_faults self.old) (shelf_faults self.new) }
+        ensures opened { OnOk result
+            (Opens (Some (shelf_told self.old)) (Some (shelf_told self.new)) name.now) }
+        ensures closed { OnErr result
+            (Closes (Some (shelf_told self.old)) (Some (shelf_told self.new))) }
+        ensures missing { IsErrOf result Missing →
+            (Rose (shelf_missed self.old) (shelf_missed self.new))
+            × IsAbsent (Some (shelf_told self.old)) name.now }
+        ensures failed { IsErrOf result Failed →
+            Rose (shelf_faults self.old) (shelf_faults self.new) }
         ensures faults_stay { shelf_faults self.old ≤ shelf_faults self.new }
         ensures missed_stay { shelf_missed self.old ≤ shelf_missed self.new }
 
         // The opens of the given numbers fail and no others, and the counts rise with the answers alone.
         ensures counted { opens_asked self.new ≡ next_count (opens_asked self.old) }
-        ensures bad { IsErrOf result Failed ↔ IsTrue (is_bad (failing_opens self.old) (next_count (opens_asked self.old))) }
-        ensures faults_exact { shelf_faults self.new ≡ faults_after_open result (shelf_faults self.old) }
-        ensures missed_exact { shelf_missed self.new ≡ missed_after_open result (shelf_missed self.old) }
+        ensures bad { IsErrOf result Failed ↔
+            IsTrue (is_bad (failing_opens self.old) (next_count (opens_asked self.old))) }
+        ensures faults_exact { shelf_faults self.new
+            ≡ faults_after_open result (shelf_faults self.old) }
+        ensures missed_exact { shelf_missed self.new
+            ≡ missed_after_open result (shelf_missed self.old) }
         ensures reads { reads_asked self.new ≡ reads_asked self.old }
         ensures alike { FailsAlike self.old self.new }
     {
@@ -100,7 +109,8 @@ impl Shelf for MemShelf {
     fn read(&mut self, into: &mut [u8]) -> Result<usize, Fault>
         requires { 0 < length into.old }
         ensures bound { IfOk result (λ n. n ≤ length into.new) }
-        ensures taken { IfOk result (λ n. Takes (Some (shelf_told self.old)) (Some (shelf_told self.new)) (take n into.new)) }
+        ensures taken { IfOk result (λ n.
+            Takes (Some (shelf_told self.old)) (Some (shelf_told self.new)) (take n into.new)) }
         ensures end { IfOk result (λ n. n ≡ 0 → IsAtEnd (Some (shelf_told self.old))) }
         ensures unchanged { OnErr result (Some (shelf_told self.new) ≡ Some (shelf_told self.old)) }
         ensures failed { OnErr result (Rose (shelf_faults self.old) (shelf_faults self.new)) }
@@ -109,8 +119,10 @@ impl Shelf for MemShelf {
 
         // The reads of the given numbers fail and no others; each other read gives as much as there is and fits.
         ensures counted { reads_asked self.new ≡ next_count (reads_asked self.old) }
-        ensures bad { IsErr result ↔ IsTrue (is_bad (failing_reads self.old) (next_count (reads_asked self.old))) }
-        ensures most { IfOk result (λ n. n ≡ min (length (shelf_told self.old).rest) (length into.old)) }
+        ensures bad { IsErr result ↔
+            IsTrue (is_bad (failing_reads self.old) (next_count (reads_asked self.old))) }
+        ensures most { IfOk result (λ n.
+            n ≡ min (length (shelf_told self.old).rest) (length into.old)) }
         ensures faults_exact { shelf_faults self.new ≡ faults_after result (shelf_faults self.old) }
         ensures missed_exact { shelf_missed self.new ≡ shelf_missed self.old }
         ensures opens { opens_asked self.new ≡ opens_asked self.old }
@@ -135,7 +147,8 @@ impl Shelf for MemShelf {
 
 // The place of the first file of this name.
 fn place_of(files: &[(String, Vec<u8>)], name: &str) -> Option<usize>
-    ensures found { IfSome result (λ i. ((file_at (as_files files.now) i).0 ≡ name.now) × (file_named (as_files files.now) name.now ≡ Some (file_at (as_files files.now) i).1)) }
+    ensures found { IfSome result (λ i. ((file_at (as_files files.now) i).0 ≡ name.now)
+        × (file_named (as_files files.now) name.now ≡ Some (file_at (as_files files.now) i).1)) }
     ensures absent { IfNone result (file_named (as_files files.now) name.now ≡ None) }
 {
     for (i, file) in files.iter().enumerate() {

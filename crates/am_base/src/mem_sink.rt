@@ -60,8 +60,10 @@ impl Sink for MemSink {
 
     fn write(&mut self, piece: &[u8]) -> Result<usize, Fault>
         ensures bound { IfOk result (λ n. n ≤ length piece.now) }
-        ensures appended { IfOk result (λ n. Some (sink_bytes self.new) ≡ append_known (Some (sink_bytes self.old)) (take n piece.now)) }
-        ensures stalled { IfOk result (λ n. n ≡ 0 → 0 < length piece.now → Rose (sink_faults self.old) (sink_faults self.new)) }
+        ensures appended { IfOk result (λ n. Some (sink_bytes self.new)
+            ≡ append_known (Some (sink_bytes self.old)) (take n piece.now)) }
+        ensures stalled { IfOk result (λ n. n ≡ 0 → 0 < length piece.now →
+            Rose (sink_faults self.old) (sink_faults self.new)) }
         ensures unchanged { OnErr result (Some (sink_bytes self.new) ≡ Some (sink_bytes self.old)) }
         ensures failed { OnErr result (Rose (sink_faults self.old) (sink_faults self.new)) }
         ensures faults_stay { sink_faults self.old ≤ sink_faults self.new }
@@ -69,9 +71,11 @@ impl Sink for MemSink {
         // The writes of the given numbers fail, and those that find no room, and no others; each other write takes as
         // much of the piece as there is room for.
         ensures counted { writes_asked self.new ≡ next_count (writes_asked self.old) }
-        ensures bad { IsErr result ↔ (IsTrue (is_bad (failing_writes self.old) (next_count (writes_asked self.old)))
+        ensures bad { IsErr result ↔
+            (IsTrue (is_bad (failing_writes self.old) (next_count (writes_asked self.old)))
             ⊎ ((length (sink_bytes self.old) ≡ sink_room self.old) × (0 < length piece.now))) }
-        ensures most { IfOk result (λ n. n ≡ min (sink_room self.old - length (sink_bytes self.old)) (length piece.now)) }
+        ensures most { IfOk result (λ n.
+            n ≡ min (sink_room self.old - length (sink_bytes self.old)) (length piece.now)) }
         ensures faults_exact { sink_faults self.new ≡ faults_after result (sink_faults self.old) }
         ensures room { sink_room self.new ≡ sink_room self.old }
         ensures alike { failing_writes self.new ≡ failing_writes self.old }

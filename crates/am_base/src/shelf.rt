@@ -34,7 +34,8 @@ pub trait Shelf {
     fn open(&mut self, name: &str) -> Result<(), OpenError>
         ensures opened { OnOk result (Opens (told self.old) (told self.new) name.now) }
         ensures closed { OnErr result (Closes (told self.old) (told self.new)) }
-        ensures missing { IsErrOf result Missing → (Rose (missed self.old) (missed self.new)) × IsAbsent (told self.old) name.now }
+        ensures missing { IsErrOf result Missing → (Rose (missed self.old) (missed self.new))
+            × IsAbsent (told self.old) name.now }
         ensures failed { IsErrOf result Failed → Rose (faults self.old) (faults self.new) }
         ensures faults_stay { faults self.old ≤ faults self.new }
         ensures missed_stay { missed self.old ≤ missed self.new };

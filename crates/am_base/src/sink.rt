@@ -29,8 +29,10 @@ pub trait Sink {
     /// `Fault`: the sink failed, and nothing was appended.
     fn write(&mut self, piece: &[u8]) -> Result<usize, Fault>
         ensures bound { IfOk result (λ n. n ≤ length piece.now) }
-        ensures appended { IfOk result (λ n. written self.new ≡ append_known (written self.old) (take n piece.now)) }
-        ensures stalled { IfOk result (λ n. n ≡ 0 → 0 < length piece.now → Rose (faults self.old) (faults self.new)) }
+        ensures appended { IfOk result (λ n.
+            written self.new ≡ append_known (written self.old) (take n piece.now)) }
+        ensures stalled { IfOk result (λ n. n ≡ 0 → 0 < length piece.now →
+            Rose (faults self.old) (faults self.new)) }
         ensures unchanged { OnErr result (written self.new ≡ written self.old) }
         ensures failed { OnErr result (Rose (faults self.old) (faults self.new)) }
         ensures faults_stay { faults self.old ≤ faults self.new };
@@ -41,7 +43,8 @@ pub trait Sink {
 /// `Fault`: the sink failed, or took none of what was left; a front of the bytes was appended.
 pub fn put<S: Sink>(sink: &mut S, bytes: &[u8]) -> Result<(), Fault>
     ensures all { OnOk result (S.written sink.new ≡ append_known (S.written sink.old) bytes.now) }
-    ensures front { OnErr result (AppendsFront (S.written sink.old) (S.written sink.new) bytes.now) }
+    ensures front { OnErr result
+        (AppendsFront (S.written sink.old) (S.written sink.new) bytes.now) }
     ensures failed { OnErr result (Rose (S.faults sink.old) (S.faults sink.new)) }
     ensures faults_stay { S.faults sink.old ≤ S.faults sink.new }
 {
