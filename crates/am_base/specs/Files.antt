@@ -17,10 +17,6 @@ HasFile told name bytes = OnTold told (λ t. file_named t.files name ≡ Some by
 abbrev pub IsLonger : Option Told → List ℕ → ℕ → Type 0
 IsLonger told name limit = OnFile told name (λ bytes. limit < length bytes)
 
--- where files are told, there is one of this name, and its bytes are so
-abbrev pub OnFile : Option Told → List ℕ → (List ℕ → Type 0) → Type 0
-OnFile told name P = OnTold told (λ t. (bytes : List ℕ) × (file_named t.files name ≡ Some bytes) × P bytes)
-
 -- the files, where they are told
 abbrev pub files_told : Option Told → Option (List File)
 files_told told = option_map (λ t. t.files) told

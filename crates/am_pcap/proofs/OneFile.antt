@@ -78,8 +78,8 @@ refused-whole bytes e qs r = elim (cut-or_not e) [
 
 -- a capture isn't refused
 pub capture-not_refused_in :
-    (bytes : List ℕ) (h : Head) (ps : List Packet) (e : CapError) (qs : List Packet) → IsCapture bytes h ps → IsRefusedIn bytes e qs → ⊥
-capture-not_refused_in bytes h ps e qs c r = capture-not_refused bytes h ps e c (after-refused e bytes qs (refused-whole bytes e qs r))
+    (bytes : List ℕ) (h : Head) (e : CapError) (ps qs : List Packet) → IsCapture bytes h ps → IsRefusedIn bytes e qs → ⊥
+capture-not_refused_in bytes h e ps qs c r = capture-not_refused bytes h ps e c (after-refused e bytes qs (refused-whole bytes e qs r))
 
 after-summary : (e : CapError) (bytes : List ℕ) (qs : List Packet) → IsRefusedAfter e bytes qs → (s : Summary) × HasSummary bytes qs s
 after-summary e bytes qs (inl p) = (
@@ -167,5 +167,5 @@ begins-after bytes h ps e qs b (inr (inr r)) =
     (front-of_all r.0.h.form.big (drop 24 bytes) ps (b.behind ++ b.rest) r.0.packets r.0.rest records r.0.records r.0.stuck)
 
 pub begins-refused :
-    (bytes : List ℕ) (h : Head) (ps : List Packet) (e : CapError) (qs : List Packet) → BeginsWith bytes h ps → IsRefusedIn bytes e qs → IsFrontOf ps qs
-begins-refused bytes h ps e qs b r = begins-after bytes h ps e qs b (refused-whole bytes e qs r)
+    (bytes : List ℕ) (h : Head) (e : CapError) (ps qs : List Packet) → BeginsWith bytes h ps → IsRefusedIn bytes e qs → IsFrontOf ps qs
+begins-refused bytes h e ps qs b r = begins-after bytes h ps e qs b (refused-whole bytes e qs r)

@@ -56,7 +56,8 @@ impl Model for Capture {
 
     ghost Value = { Reading };
 
-    ghost view = { λ a. record { decoded = a.decoder; held = a.held; read = a.read; over = a.over } };
+    ghost view = { λ a.
+        record { decoded = a.decoder; held = a.held; read = a.read; over = a.over } };
 
     ghost invariant = { λ a. IsInOrder a.decoder a.held a.head a.read a.over };
 }
@@ -73,9 +74,10 @@ impl Capture {
             × ReadsOn (S.told shelf.old) (S.told shelf.new) name.now c h []) }
         ensures refused { IfErr result (λ e.
             WhyNotOpened (S.told shelf.old) (S.told shelf.new) name.now e) }
-        ensures missing { IsErrOf result Missing
-            → Rose (S.missed shelf.old) (S.missed shelf.new) × IsAbsent (S.told shelf.old) name.now }
-        ensures read_fault { IsErrOf result ReadFault → Rose (S.faults shelf.old) (S.faults shelf.new) }
+        ensures missing { IsErrOf result Missing → (Rose (S.missed shelf.old) (S.missed shelf.new))
+            × IsAbsent (S.told shelf.old) name.now }
+        ensures read_fault { IsErrOf result ReadFault
+            → Rose (S.faults shelf.old) (S.faults shelf.new) }
         ensures files { KeepsFiles (S.told shelf.old) (S.told shelf.new) }
         ensures faults_stay { S.faults shelf.old ≤ S.faults shelf.new }
         ensures missed_stay { S.missed shelf.old ≤ S.missed shelf.new }
@@ -131,7 +133,8 @@ impl Capture {
             StopsReading self.old (S.told shelf.old) (S.told shelf.new) e) }
         ensures error { IfErr result (λ e.
             GivesError self.old (S.told shelf.old) (S.told shelf.new) e) }
-        ensures read_fault { IsErrOf result ReadFault → Rose (S.faults shelf.old) (S.faults shelf.new) }
+        ensures read_fault { IsErrOf result ReadFault
+            → Rose (S.faults shelf.old) (S.faults shelf.new) }
         ensures faults_stay { S.faults shelf.old ≤ S.faults shelf.new }
         ensures missed_stay { S.missed shelf.old ≤ S.missed shelf.new }
     {

@@ -48,7 +48,9 @@ impl Model for Decoder {
 
     ghost view = { λ a. shown a.buffer.items a.head a.error a.count a.taken a.full a.waiting };
 
-    ghost invariant = { λ a. IsSound (vec_capacity a.buffer) a.buffer.items a.head a.error a.count a.taken a.full a.waiting };
+    ghost invariant = { λ a.
+        IsSound (vec_capacity a.buffer) a.buffer.items a.head a.error a.count a.taken a.full
+        a.waiting };
 }
 
 impl Decoder {
@@ -86,7 +88,8 @@ impl Decoder {
             → Refused self.old self.new piece.now e) }
         // Behind a record that waits nothing is unfinished.
         ensures left { IsSome self.new.waiting → self.new.summary.unfinished ≡ [] }
-        ensures head { IsSome self.old.summary.head → self.new.summary.head ≡ self.old.summary.head }
+        ensures head { IsSome self.old.summary.head
+            → self.new.summary.head ≡ self.old.summary.head }
         ensures repeated { (e : CapError) → self.old.summary.error ≡ Some e
             → (result ≡ Err e) × (self.new ≡ self.old) }
     {

@@ -14,7 +14,7 @@ ghost use Rattle.am_pcap.specs.declared.refusal.CapError.{CapError};
 pub fn captures_are_one()
     ensures one { (bytes : List ℕ) (h k : Head) (ps qs : List Packet)
         → IsCapture bytes h ps → IsCapture bytes k qs → (h ≡ k) × (ps ≡ qs) }
-    ensures not_refused { (bytes : List ℕ) (h : Head) (ps : List Packet) (e : CapError) (qs : List Packet)
+    ensures not_refused { (bytes : List ℕ) (h : Head) (e : CapError) (ps qs : List Packet)
         → IsCapture bytes h ps → IsRefusedIn bytes e qs → ⊥ }
     ensures refused_once { (bytes : List ℕ) (d e : CapError) (ps qs : List Packet)
         → IsRefusedIn bytes d ps → IsRefusedIn bytes e qs → (d ≡ e) × (ps ≡ qs) }
@@ -34,7 +34,7 @@ pub fn beginnings_agree()
         → (h ≡ k) × (IsFrontOf ps qs ⊎ IsFrontOf qs ps) }
     ensures not_refused { (bytes : List ℕ) (h : Head) (ps : List Packet) (e : CapError)
         → BeginsWith bytes h ps → IsRefusedHeader bytes e → ⊥ }
-    ensures refused { (bytes : List ℕ) (h : Head) (ps : List Packet) (e : CapError) (qs : List Packet)
+    ensures refused { (bytes : List ℕ) (h : Head) (e : CapError) (ps qs : List Packet)
         → BeginsWith bytes h ps → IsRefusedIn bytes e qs → IsFrontOf ps qs }
 {}
 

@@ -41,7 +41,8 @@ pub fn open_head<S: Shelf>(
 ) -> Result<Head, FileError>
     requires { HeadUnread decoder.old held.old read.old }
     ensures found { IfOk result (λ h.
-        HeadFound decoder.old decoder.new held.new read.new (S.told shelf.old) (S.told shelf.new) h) }
+        HeadFound decoder.old decoder.new held.new read.new
+        (S.told shelf.old) (S.told shelf.new) h) }
     ensures fails { IfErr result (λ e.
         HeadFails decoder.old (S.told shelf.old) (S.told shelf.new) e) }
     ensures read_fault { IsErrOf result ReadFault → Rose (S.faults shelf.old) (S.faults shelf.new) }
