@@ -1,10 +1,10 @@
 -- Of one list of bytes: what it begins with, whether it is a capture, and how it is refused fit together.
-use Rattle.std.proofs.Common.{arith, refl, sym, ap, subst, ◌∙◌, ◌≡◌, ℕ, ◌+◌, ◌≤◌, Bool, List, [], ◌∷◌, ◌++◌, length, take, drop, Option, Some, None, Err, ◌⊎◌, inl, inr}
+use Rattle.std.proofs.Common.{arith, refl, sym, ap, subst, ◌∙◌, ◌≡◌, ℕ, ◌+◌, Bool, List, [], ◌∷◌, ◌++◌, length, take, drop, Some, None, Err, ◌⊎◌, inl, inr}
 use Rattle.std.proofs.lemmas.List.{append-nil}
 use Rattle.am_pcap.specs.Packets.{Packet, IsWhole, HoldsPackets, behind_first}
-use Rattle.am_pcap.specs.Captures.{Summary, HasSummary, IsCapture, IsTooLong, IsRefused, IsRefusedAfter, HasBadRecord, HasRecords, WhyRefused}
+use Rattle.am_pcap.specs.Captures.{Summary, HasSummary, IsCapture, IsTooLong, IsRefusedAfter, HasBadRecord, WhyRefused}
 use Rattle.am_pcap.specs.Readings.{IsCut}
-use Rattle.am_pcap.specs.CaptureFiles.{Begins, BeginsWith, HasHead, IsRefusedIn, IsRefusedHeader, IsFrontOf}
+use Rattle.am_pcap.specs.CaptureFiles.{BeginsWith, HasHead, IsRefusedIn, IsRefusedHeader, IsFrontOf}
 use Rattle.am_pcap.specs.declared.refusal.CapError.{CapError}
 use Rattle.am_pcap.specs.declared.head.Head.{Head}
 use Rattle.am_pcap.proofs.Judged.{head-unique, head-not_refused}
