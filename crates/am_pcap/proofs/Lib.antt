@@ -13,3 +13,4 @@ pub mod ReadFiles
 pub mod Gives
 pub mod HeadReading
 pub mod Framed
+pub mod OneFile

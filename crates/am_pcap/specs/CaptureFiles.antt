@@ -37,6 +37,10 @@ pub record BeginsWith (bytes : List ℕ) (h : Head) (ps : List Packet) : Type 0 
   pub begins : Begins front h ps behind
   pub all : Begins bytes h ps (behind ++ rest)
 
+-- the second list of packets begins with the first
+abbrev pub IsFrontOf : List Packet → List Packet → Type 0
+IsFrontOf ps qs = (more : List Packet) × (qs ≡ ps ++ more)
+
 -- the bytes are a capture, and are at most 2^40
 pub record IsWholeCapture (bytes : List ℕ) (h : Head) (ps : List Packet) : Type 0 where
   pub short : length bytes ≤ most_read

@@ -2,7 +2,7 @@
 ghost use Rattle.std.specs.Prelude.{◌≡◌, ◌+◌, ◌-◌, ◌*◌, ◌<◌, ◌≤◌, ◌^◌, ◌++◌, ℕ, List, [], length, take, min, Some, None, Ok, Err, IsSome, IsTrue, ◌↔◌, IfOk, IfErr, OnOk, OnSome, MatchOption, vec_len, vec_capacity, cond};
 ghost use Rattle.std.specs.Borrow.{sem};
 ghost use Rattle.am_pcap.specs.Captures.{verdict, IsVerdict};
-ghost use Rattle.am_pcap.specs.Decoded.{Decoded, nothing_taken, after_take, Took, Refused, Counts, Goes, StandsFor, header_length};
+ghost use Rattle.am_pcap.specs.Decoded.{Decoded, nothing_taken, after_take, CanTake, Took, Refused, Counts, Goes, StandsFor, header_length};
 ghost use Rattle.am_pcap.specs.Packets.{word, IsWhole, first_packet};
 ghost use Rattle.am_pcap.specs.Shown.{packet_shown};
 ghost use Rattle.am_pcap.specs.declared.refusal.CapError.{CapError};
@@ -48,7 +48,9 @@ impl Model for Decoder {
 
     ghost view = { λ a. shown a.buffer.items a.head a.error a.count a.taken a.full a.waiting };
 
-    ghost invariant = { λ a. IsSound (vec_capacity a.buffer) a.buffer.items a.head a.error a.count a.taken a.full a.waiting };
+    ghost invariant = { λ a.
+        IsSound (vec_capacity a.buffer) a.buffer.items a.head a.error a.count a.taken a.full
+        a.waiting };
 }
 
 impl Decoder {
@@ -76,15 +78,20 @@ impl Decoder {
     /// where one waited before. An error comes in the call that takes the last byte of the header that is refused, and
     /// from then on in each call.
     pub fn feed(&mut self, piece: &[u8]) -> Result<usize, CapError>
-        requires { self.old.summary.taken + length piece.now ≤ 2 ^ 63 }
+        requires { CanTake self.old piece.now }
         ensures took { IfOk result (λ n. Took self.old self.new piece.now n) }
         ensures clean { OnOk result (self.new.summary.error ≡ None) }
         ensures all { IfOk result (λ n. n < length piece.now → IsSome self.new.waiting) }
         ensures stalled { IsSome self.old.waiting → (result ≡ Ok 0) × (self.new ≡ self.old) }
         ensures counts { OnOk result (self.old.waiting ≡ None → Counts self.old self.new) }
-        ensures refused { IfErr result (λ e. self.old.summary.error ≡ None → Refused self.old self.new piece.now e) }
-        ensures head { IsSome self.old.summary.head → self.new.summary.head ≡ self.old.summary.head }
-        ensures repeated { (e : CapError) → self.old.summary.error ≡ Some e → (result ≡ Err e) × (self.new ≡ self.old) }
+        ensures refused { IfErr result (λ e. self.old.summary.error ≡ None
+            → Refused self.old self.new piece.now e) }
+        // Behind a record that waits nothing is unfinished.
+        ensures left { IsSome self.new.waiting → self.new.summary.unfinished ≡ [] }
+        ensures head { IsSome self.old.summary.head
+            → self.new.summary.head ≡ self.old.summary.head }
+        ensures repeated { (e : CapError) → self.old.summary.error ≡ Some e
+            → (result ≡ Err e) × (self.new ≡ self.old) }
     {
         if let Some(error) = self.error {
             return Err(error);
@@ -111,7 +118,7 @@ impl Decoder {
 
     // Takes bytes of the file header.
     fn feed_head(&mut self, piece: &[u8]) -> Result<usize, CapError>
-        requires room { self.old.summary.taken + length piece.now ≤ 2 ^ 63 }
+        requires room { CanTake self.old piece.now }
         requires head { self.old.summary.head ≡ None }
         requires clean { self.old.summary.error ≡ None }
         ensures took { IfOk result (λ n. Took self.old self.new piece.now n) }
@@ -141,7 +148,7 @@ impl Decoder {
 
     // Takes bytes of a record.
     fn feed_record(&mut self, piece: &[u8]) -> Result<usize, CapError>
-        requires room { self.old.summary.taken + length piece.now ≤ 2 ^ 63 }
+        requires room { CanTake self.old piece.now }
         requires head { IsSome self.old.summary.head }
         requires clean { self.old.summary.error ≡ None }
         requires waiting { self.old.waiting ≡ None }
@@ -151,6 +158,7 @@ impl Decoder {
         ensures counts { OnOk result (Counts self.old self.new) }
         ensures head { self.new.summary.head ≡ self.old.summary.head }
         ensures refused { IfErr result (λ e. Refused self.old self.new piece.now e) }
+        ensures left { IsSome self.new.waiting → self.new.summary.unfinished ≡ [] }
     {
         let Some(head) = self.head else {
             prove!(false);
@@ -185,8 +193,8 @@ impl Decoder {
         Ok(n + m)
     }
 
-    /// Whether a record waits.
-    pub fn is_waiting(&self) -> bool
+    // Whether a record waits.
+    pub(crate) fn is_waiting(&self) -> bool
         ensures { IsTrue result ↔ IsSome self.now.waiting }
     {
         self.waiting
@@ -195,7 +203,8 @@ impl Decoder {
     /// The record that waits, which then waits no longer. Some exactly where one waits.
     pub fn take(&mut self) -> Option<Record<'_>>
         ensures* leaves { sem 𝓛 (Leaves self.entry (after_take self.old)) }
-        ensures record { MatchOption result (self.old.waiting ≡ None) (λ r. (self.old.waiting ≡ Some (packet_shown r)) × (r.number ≡ self.old.summary.count)) }
+        ensures record { MatchOption result (self.old.waiting ≡ None) (λ r.
+            (self.old.waiting ≡ Some (packet_shown r)) × (r.number ≡ self.old.summary.count)) }
     {
         let Some(head) = self.head else {
             return None;

@@ -87,7 +87,9 @@ pub fn record_head(
     ensures captured { word form.big result 8 ≡ captured }
     ensures original { word form.big result 12 ≡ original }
     ensures spelled { (bytes : List ℕ) → length bytes ≡ captured → captured ≤ 262144
-        → HoldsPackets form.big (result ++ bytes) (record { seconds = seconds; fraction = fraction; original = original; bytes = bytes } ∷ []) [] }
+        → HoldsPackets form.big (result ++ bytes)
+        (record { seconds = seconds; fraction = fraction; original = original; bytes = bytes } ∷ [])
+        [] }
 {
     let a = word_bytes(form.big, seconds);
     let b = word_bytes(form.big, fraction);
