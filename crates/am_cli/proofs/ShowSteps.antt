@@ -75,11 +75,6 @@ pub line_of_pieces :
 line_of_pieces l0 l1 l2 l3 start held e0 e1 e2 e3 =
     e3 ∙ ap (λ x. x ++ 10 ∷ []) (e2 ∙ ap (λ x. x ++ held) (e1 ∙ ap (λ x. x ++ start) e0))
 
--- a test that says whether all bytes were captured
-pub whole_is : (b : Bool) (m n : ℕ) → (IsTrue b → m ≤ n) × (m ≤ n → IsTrue b) → b ≡ nat_le m n
-whole_is true m n h = elim (leb_tells m n) [ inl t ↦ sym t.0 | inr f ↦ let le : m ≤ n = h.0 refl in absurd (omega arith) ]
-whole_is false m n h = elim (leb_tells m n) [ inl t ↦ absurd (false≢true (h.1 t.1)) | inr f ↦ sym f.0 ]
-
 -- a line grew by what a record holds, where it grew by its packet
 pub frame_of_packet :
     (link : LinkKind) (p : Packet) (at : ℕ) (whole : Bool) (packet old new : List ℕ)

@@ -3,7 +3,7 @@ use Rattle.std.specs.Prelude.{ℕ, List, [], ◌++◌, Option, Some, None, codes
 use Rattle.am_pcap.specs.declared.refusal.CapError.{CapError}
 use Rattle.am_pcap.specs.declared.refusal.CapError.TheVariants.{BadMagic, BadVersion, UnknownLink, RecordTooLong, CutFile}
 use Rattle.am_domain.specs.declared.error.DomainError.{DomainError}
-use Rattle.am_cli.specs.DomainTexts.{domain_text}
+use Rattle.am_domain.specs.DomainTexts.{domain_text}
 
 -- why an input is refused
 pub data Reason : Type 0 where

@@ -1,5 +1,4 @@
 pub mod MeterStub
-pub mod DomainTexts
 pub mod Answers
 pub mod Chains
 pub mod WordForms

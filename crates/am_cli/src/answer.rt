@@ -4,7 +4,6 @@ ghost use Rattle.am_cli.specs.Answers as said;
 ghost use Rattle.am_cli.specs.Answers.{said_of, refusal_line, subject, reason_text, capture_text, line, status};
 ghost use Rattle.am_cli.specs.Shown.{reason_shown, stop_shown, IsAnswer, file_answer, capture_answer, domain_answer};
 
-use crate::domain_line::push_error;
 use am_base::FileFault;
 use am_domain::DomainError;
 use am_pcap::{CapError, FileError};
@@ -213,7 +212,7 @@ fn push_reason(line: &mut String, reason: Reason) -> Result<(), AllocError>
         Reason::TooLong => line.push_str("too long"),
         Reason::BadCapture { error } => push_capture(line, error),
         Reason::HeadersCut { number } => write!(line, "headers of record {number} are cut"),
-        Reason::BadDomain { error } => push_error(line, &error),
+        Reason::BadDomain { error } => write!(line, "{error}"),
     }
 }
 

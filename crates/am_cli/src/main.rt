@@ -7,7 +7,6 @@
 mod answer;
 mod commands;
 mod counting;
-mod domain_line;
 mod inputs;
 
 mod laws;

@@ -1,0 +1,33 @@
+-- Each command performs its own chain.
+use Rattle.std.proofs.Common.{sym, subst}
+use Rattle.am_cli.specs.Chains.{inputs, output, Performs}
+use Rattle.am_cli.specs.Forms.{chain_of}
+use Rattle.am_cli.specs.Shown.{command_shown, answer_of}
+use Rattle.am_cli.proofs.commands.perform.Goals as goal
+
+pub returns-in-Link : goal.returns-in-Link
+returns-in-Link g c =
+    subst
+    (λ x. Performs (inputs (g.S.Shelf.told c.args.shelf.now) (g.S.Shelf.faults c.args.shelf.now) (g.S.Shelf.missed c.args.shelf.now))
+    (inputs (g.S.Shelf.told c.link.new.shelf) (g.S.Shelf.faults c.link.new.shelf) (g.S.Shelf.missed c.link.new.shelf))
+    (output (g.O.Sink.written c.args.out.now) (g.O.Sink.faults c.args.out.now)) (output (g.O.Sink.written c.link.new.out) (g.O.Sink.faults c.link.new.out))
+    (chain_of (command_shown x)) (answer_of c.link.result))
+    (sym c.in-Link.is) c.link.ensures
+
+pub returns-in-Show : goal.returns-in-Show
+returns-in-Show g c =
+    subst
+    (λ x. Performs (inputs (g.S.Shelf.told c.args.shelf.now) (g.S.Shelf.faults c.args.shelf.now) (g.S.Shelf.missed c.args.shelf.now))
+    (inputs (g.S.Shelf.told c.show.new.shelf) (g.S.Shelf.faults c.show.new.shelf) (g.S.Shelf.missed c.show.new.shelf))
+    (output (g.O.Sink.written c.args.out.now) (g.O.Sink.faults c.args.out.now)) (output (g.O.Sink.written c.show.new.out) (g.O.Sink.faults c.show.new.out))
+    (chain_of (command_shown x)) (answer_of c.show.result))
+    (sym c.in-Show.is) c.show.ensures
+
+pub returns-in-Check : goal.returns-in-Check
+returns-in-Check g c =
+    subst
+    (λ x. Performs (inputs (g.S.Shelf.told c.args.shelf.now) (g.S.Shelf.faults c.args.shelf.now) (g.S.Shelf.missed c.args.shelf.now))
+    (inputs (g.S.Shelf.told c.check.new.shelf) (g.S.Shelf.faults c.check.new.shelf) (g.S.Shelf.missed c.check.new.shelf))
+    (output (g.O.Sink.written c.args.out.now) (g.O.Sink.faults c.args.out.now)) (output (g.O.Sink.written c.check.new.out) (g.O.Sink.faults c.check.new.out))
+    (chain_of (command_shown x)) (answer_of c.check.result))
+    (sym c.in-Check.is) c.check.ensures
