@@ -1,17 +1,32 @@
 -- What taking an input says: what is taken of its file, or the stop at it.
-use Rattle.std.proofs.Common.{refl, sym, subst, ◌∙◌, ◌≡◌, ℕ, ◌≤◌, ◌<◌, List, [], length, Option, Some, None, Ok, Err, inl, inr}
+use Rattle.std.proofs.Common.{arith, refl, sym, subst, ◌≡◌, ℕ, ◌≤◌, List, [], length, Option, Some, None, Ok, Err, inl, inr}
 use Rattle.std.specs.Prelude.{Result}
-use Rattle.am_base.specs.Shelves.{Told, IsAtEnd}
-use Rattle.am_base.specs.Files.{HasFile, IsWholeRead}
-use Rattle.am_domain.specs.Domains.{TellsRefusal}
+use Rattle.std.proofs.lemmas.List.{append-nil}
+use Rattle.am_base.specs.Counts.{Rose}
+use Rattle.am_base.specs.Shelves.{Told, IsAbsent, IsAtEnd}
+use Rattle.am_base.specs.Files.{OnFile, HasFile, IsWholeRead}
+use Rattle.am_ip6.specs.declared.marks.Place.{Place}
+use Rattle.am_ip6.specs.declared.marks.Place.TheVariants.{HopByHop}
+use Rattle.am_pcap.specs.Packets.{Packet}
+use Rattle.am_pcap.specs.CaptureFiles.{Begins, BeginsWith, IsWholeCapture}
+use Rattle.am_pcap.specs.declared.head.Head.{Head}
+use Rattle.am_pcap.specs.declared.capture.FileError.TheVariants as file
+use Rattle.am_meter.specs.Marks.{MarksRefusal, JudgesMarks, RefusesMarks}
+use Rattle.am_meter.specs.Marks.MarksRefusal as marks
+use Rattle.am_meter.specs.Streaming.{Streaming}
+use Rattle.am_meter.specs.Streams.{StreamsOn, EndsStream, StopsStream, WhyStreamStopped, WhyNotStreamed}
+use Rattle.am_meter.specs.declared.stream.Marked.{Marked}
+use Rattle.am_meter.specs.declared.stream.MeterError.{MeterError}
+use Rattle.am_meter.specs.declared.stream.MeterError.TheVariants as meter
+use Rattle.am_domain.specs.Domains.{DomainValue, IsDomainOf, IsDomainRefusal, TellsRefusal}
 use Rattle.am_domain.specs.declared.error.DomainError.{DomainError}
 use Rattle.am_domain.specs.declared.error.DomainError.TheVariants as domain
 use Rattle.am_cli.specs.Answers.{Reason, Answer}
-use Rattle.am_cli.specs.Answers.Reason.{BadDomain}
-use Rattle.am_cli.specs.Answers.Answer.{NoMemory}
-use Rattle.am_cli.specs.Chains.{Inputs, Judged, StopsAt}
-use Rattle.am_cli.specs.Inputs.{JudgesDomain, most_domain}
-use Rattle.am_cli.specs.Shown.{IsAnswer, domain_answer}
+use Rattle.am_cli.specs.Answers.Reason.{TooLong, BadCapture, HeadersCut, BadDomain}
+use Rattle.am_cli.specs.Chains.{Inputs, Judged, Follows, StopsAt}
+use Rattle.am_cli.specs.Inputs.{JudgesCapture, JudgesDomain, marks_reason, most_domain}
+use Rattle.am_cli.specs.Shown.{IsAnswer, stream_answer, domain_answer}
+use Rattle.am_cli.proofs.ChainLemmas.{rose-later}
 
 -- a file that was read is judged as its bytes are
 pub judged-of :
@@ -41,3 +56,108 @@ pub domain-stops :
     → HasFile before.told name bytes → length bytes ≤ most_domain → TellsRefusal bytes e → StopsAt before after name JudgesDomain (domain_answer name e)
 domain-stops before after name bytes domain.Memory there short h = tt
 domain-stops before after name bytes e there short h = (refl, judged-of before.told name JudgesDomain bytes (Err (BadDomain e)) there (short, h))
+
+-- a domain isn't refused
+pub domain-excludes :
+    ((bytes : List ℕ) (d : DomainValue) (e : DomainError) → IsDomainOf bytes d → IsDomainRefusal bytes e → ⊥)
+    → (bytes : List ℕ) (d : DomainValue) (reason : Reason) → JudgesDomain bytes (Ok d) → JudgesDomain bytes (Err reason) → ⊥
+domain-excludes law bytes d TooLong taken refused = omega (arith, taken.0, refused)
+domain-excludes law bytes d (BadCapture error) taken refused = refused
+domain-excludes law bytes d (HeadersCut number) taken refused = refused
+domain-excludes law bytes d (BadDomain error) taken refused = law bytes d error taken.1 refused.1
+
+-- a whole capture begins with all its records
+pub whole-begins : (bytes : List ℕ) (h : Head) (ps : List Packet) → IsWholeCapture bytes h ps → BeginsWith bytes h ps
+whole-begins bytes h ps w =
+    let begins : Begins bytes h ps [] = record { whole = w.capture.whole; head = w.capture.head; records = w.capture.records } in
+    record {
+      front = bytes;
+      rest = [];
+      behind = [];
+      split = sym (append-nil bytes);
+      short = w.short;
+      begins = begins;
+      all = begins;
+    }
+
+-- what holds of the bytes of a file gives what follows of them
+on-file-more : (told : Option Told) (name : List ℕ) (P Q : List ℕ → Type 0) → ((bytes : List ℕ) → P bytes → Q bytes) → OnFile told name P → OnFile told name Q
+on-file-more None name P Q f p = tt
+on-file-more (Some t) name P Q f p = (p.0, p.1, f p.0 p.2)
+
+-- a capture that is refused in place of its marked records ends the command
+marks-refused :
+    (told : Option Told) (name : List ℕ) (e : MarksRefusal) (ms : List Marked)
+    → OnFile told name (λ bytes. RefusesMarks HopByHop bytes e ms) → Judged told name (JudgesCapture HopByHop) (Err (marks_reason e))
+marks-refused told name e ms h =
+    on-file-more told name (λ bytes. RefusesMarks HopByHop bytes e ms) (λ bytes. JudgesCapture HopByHop bytes (Err (marks_reason e)))
+    (λ bytes x. (e, (ms, x), refl)) h
+
+not-streamed :
+    (before after : Inputs) (name : List ℕ) (e : MeterError) → WhyNotStreamed HopByHop before.told after.told name e
+    → (e ≡ meter.File file.Missing → Rose before.missed after.missed × IsAbsent before.told name)
+    → (e ≡ meter.File file.ReadFault → Rose before.faults after.faults)
+    → StopsAt before after name (JudgesCapture HopByHop) (stream_answer name e)
+not-streamed before after name (meter.File file.Missing) why missing failed = ((refl, (missing refl).1), (missing refl).0)
+not-streamed before after name (meter.File file.ReadFault) why missing failed = (refl, failed refl)
+not-streamed before after name (meter.File file.TooLong) why missing failed = absurd why
+not-streamed before after name (meter.File (file.Bad error)) why missing failed =
+    (refl, marks-refused before.told name (marks.BadCapture error) [] why.1)
+not-streamed before after name (meter.File file.Memory) why missing failed = tt
+not-streamed before after name (meter.HeadersCut number) why missing failed = absurd why
+
+-- why a stream is not opened is a stop at its file
+pub stream-not-opened-stops :
+    (before after : Inputs) (name : List ℕ) (e : MeterError) (answer : Answer) → WhyNotStreamed HopByHop before.told after.told name e
+    → (e ≡ meter.File file.Missing → Rose before.missed after.missed × IsAbsent before.told name)
+    → (e ≡ meter.File file.ReadFault → Rose before.faults after.faults)
+    → IsAnswer (stream_answer name e) answer
+    → StopsAt before after name (JudgesCapture HopByHop) answer
+stream-not-opened-stops before after name e answer why missing failed is =
+    stop-answer before after name (JudgesCapture HopByHop) (stream_answer name e) answer (not-streamed before after name e why missing failed) is
+
+not-streamed-on :
+    (before now after : Inputs) (name : List ℕ) (place : Place) (ms : List Marked) (e : MeterError)
+    → place ≡ HopByHop
+    → WhyStreamStopped place before.told after.told name ms e
+    → (e ≡ meter.File file.ReadFault → Rose now.faults after.faults) → before.faults ≤ now.faults
+    → StopsAt before after name (JudgesCapture HopByHop) (stream_answer name e)
+not-streamed-on before now after name place ms (meter.File file.Missing) is why failed faults = absurd why
+not-streamed-on before now after name place ms (meter.File file.ReadFault) is why failed faults =
+    (refl, rose-later before.faults now.faults after.faults faults (failed refl))
+not-streamed-on before now after name place ms (meter.File file.TooLong) is why failed faults =
+    (refl, marks-refused before.told name marks.Long ms (subst (λ p. OnFile before.told name (λ bytes. RefusesMarks p bytes marks.Long ms)) is why))
+not-streamed-on before now after name place ms (meter.File (file.Bad error)) is why failed faults = (
+  refl,
+  marks-refused before.told name (marks.BadCapture error) ms
+      (subst (λ p. OnFile before.told name (λ bytes. RefusesMarks p bytes (marks.BadCapture error) ms)) is why),
+)
+not-streamed-on before now after name place ms (meter.File file.Memory) is why failed faults = absurd why
+not-streamed-on before now after name place ms (meter.HeadersCut number) is why failed faults = (
+  refl,
+  marks-refused before.told name (marks.HeadersCut number) ms
+      (subst (λ p. OnFile before.told name (λ bytes. RefusesMarks p bytes (marks.HeadersCut number) ms)) is why),
+)
+
+-- why there is no next marked record is a stop at its file
+pub stream-stops :
+    (before now after : Inputs) (name : List ℕ) (s : Streaming) (ms : List Marked) (e : MeterError) (answer : Answer)
+    → StreamsOn before.told now.told name s ms → StopsStream s now.told after.told e → s.place ≡ HopByHop
+    → (e ≡ meter.File file.ReadFault → Rose now.faults after.faults) → before.faults ≤ now.faults
+    → IsAnswer (stream_answer name e) answer
+    → StopsAt before after name (JudgesCapture HopByHop) answer
+stream-stops before now after name s ms e answer on stops is failed faults answers =
+    stop-answer before after name (JudgesCapture HopByHop) (stream_answer name e) answer
+    (not-streamed-on before now after name s.place ms e is (stops before.told name ms on).0 failed faults) answers
+
+-- the end of a stream is what is taken of its file
+pub stream-taken :
+    (before now after : Inputs) (name : List ℕ) (s : Streaming) (ms : List Marked)
+    → StreamsOn before.told now.told name s ms → EndsStream s now.told after.told → s.place ≡ HopByHop
+    → before.faults ≤ now.faults → before.missed ≤ now.missed → now.faults ≤ after.faults → now.missed ≤ after.missed
+    → Judged before.told name (JudgesCapture HopByHop) (Ok ms) × Follows before after
+stream-taken before now after name s ms on ends is faults missed faults_stay missed_stay =
+    let e = ends before.told name ms on in (
+      subst (λ p. OnFile before.told name (λ bytes. JudgesMarks p bytes (Ok ms))) is e.0,
+      record { kept = e.2; faults = omega (arith, faults, faults_stay); missed = omega (arith, missed, missed_stay); at_end = e.1 },
+    )

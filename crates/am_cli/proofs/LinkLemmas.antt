@@ -1,7 +1,7 @@
 -- The table of what both captures of `link` count.
 use Rattle.std.proofs.Common.{◌≡◌, ℕ, List, sym, ◌∙◌, subst, arith}
 use Rattle.std.proofs.lemmas.List.Elements.{All-weaker}
-use Rattle.am_cli.specs.MeterStub.{Marked}
+use Rattle.am_meter.specs.declared.stream.Marked.{Marked}
 use Rattle.am_cli.specs.Tables.{Row, IsTable, count_in, table_text}
 use Rattle.am_cli.specs.commands.Link.{Link, IsLinkTable, times_of}
 

@@ -2,8 +2,9 @@
 use Rattle.std.specs.Prelude.{◌≡◌, ℕ, ◌<◌, ◌≤◌, List, length, Result, Ok, Err}
 use Rattle.am_ip6.specs.declared.marks.Place.{Place}
 use Rattle.am_domain.specs.Domains.{DomainValue, IsDomainOf, IsDomainRefusal}
-use Rattle.am_cli.specs.MeterStub.{Marked, MarksRefusal, JudgesMarks}
-use Rattle.am_cli.specs.MeterStub.MarksRefusal.{LongFile, BadFile, CutHeaders}
+use Rattle.am_meter.specs.Marks.{MarksRefusal, JudgesMarks}
+use Rattle.am_meter.specs.declared.stream.Marked.{Marked}
+use Rattle.am_meter.specs.Marks.MarksRefusal as marks
 use Rattle.am_cli.specs.Answers.{Reason}
 use Rattle.am_cli.specs.Answers.Reason.{TooLong, BadCapture, HeadersCut, BadDomain}
 
@@ -21,9 +22,9 @@ JudgesDomain bytes (Err (HeadersCut number)) = ⊥
 
 -- why a capture is refused that is taken for its marked records
 abbrev pub marks_reason : MarksRefusal → Reason
-marks_reason LongFile = TooLong
-marks_reason (BadFile error) = BadCapture error
-marks_reason (CutHeaders number) = HeadersCut number
+marks_reason marks.Long = TooLong
+marks_reason (marks.BadCapture error) = BadCapture error
+marks_reason (marks.HeadersCut number) = HeadersCut number
 
 -- a capture that is taken for its marked records in this kind of header
 abbrev pub JudgesCapture : Place → List ℕ → Result (List Marked) Reason → Type 0

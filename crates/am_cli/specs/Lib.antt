@@ -1,4 +1,3 @@
-pub mod MeterStub
 pub mod Answers
 pub mod Chains
 pub mod WordForms

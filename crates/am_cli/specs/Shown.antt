@@ -4,6 +4,8 @@ use Rattle.am_base.specs.declared.file.FileFault.{FileFault}
 use Rattle.am_base.specs.declared.file.FileFault.TheVariants as whole
 use Rattle.am_pcap.specs.declared.capture.FileError.{FileError}
 use Rattle.am_pcap.specs.declared.capture.FileError.TheVariants as capture
+use Rattle.am_meter.specs.declared.stream.MeterError.{MeterError}
+use Rattle.am_meter.specs.declared.stream.MeterError.TheVariants as meter
 use Rattle.am_domain.specs.declared.error.DomainError.{DomainError}
 use Rattle.am_domain.specs.declared.error.DomainError.TheVariants as domain
 use Rattle.am_cli.specs.Answers as said
@@ -86,6 +88,11 @@ capture_answer name capture.ReadFault = said.Answer.ReadFault name
 capture_answer name capture.TooLong = said.Answer.Ended (said.Ending.Refused (Some name) said.Reason.TooLong)
 capture_answer name (capture.Bad error) = said.Answer.Ended (said.Ending.Refused (Some name) (said.Reason.BadCapture error))
 capture_answer name capture.Memory = said.Answer.NoMemory
+
+-- the answer where the marked records of this capture could not be given
+abbrev pub stream_answer : List ℕ → MeterError → Answer
+stream_answer name (meter.File error) = capture_answer name error
+stream_answer name (meter.HeadersCut number) = said.Answer.Ended (said.Ending.Refused (Some name) (said.Reason.HeadersCut number))
 
 -- the answer where the bytes of this file are no domain file
 abbrev pub domain_answer : List ℕ → DomainError → Answer

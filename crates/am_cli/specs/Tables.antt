@@ -3,7 +3,7 @@ use Rattle.std.specs.Prelude.{◌≡◌, ℕ, ◌+◌, ◌<◌, ◌&&◌, ◌==�
 use Rattle.std.specs.Fmt.{signed_decimal}
 use Rattle.std.specs.List.Sorted.{IsStrictlyIncreasing}
 use Rattle.am_clock.specs.Times.{Times, belongs_to}
-use Rattle.am_cli.specs.MeterStub.{Marked}
+use Rattle.am_meter.specs.declared.stream.Marked.{Marked}
 
 -- a marked record counts in a block at a node of this shift: it is of the flow, and belongs to the block by its colour and its reading
 abbrev pub counts_in : Times → ℕ → ℕ → ℕ → Marked → Bool

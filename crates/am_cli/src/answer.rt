@@ -2,10 +2,11 @@
 ghost use Rattle.std.specs.Prelude.{◌≡◌, ◌++◌, Some, IfOk, OnOk, option_map, string_bytes, codes, decimal};
 ghost use Rattle.am_cli.specs.Answers as said;
 ghost use Rattle.am_cli.specs.Answers.{said_of, refusal_line, subject, reason_text, capture_text, line, status};
-ghost use Rattle.am_cli.specs.Shown.{reason_shown, stop_shown, IsAnswer, file_answer, capture_answer, domain_answer};
+ghost use Rattle.am_cli.specs.Shown.{reason_shown, stop_shown, IsAnswer, file_answer, capture_answer, stream_answer, domain_answer};
 
 use am_base::FileFault;
 use am_domain::DomainError;
+use am_meter::MeterError;
 use am_pcap::{CapError, FileError};
 use std::alloc::{AllocError, Global};
 use std::fmt::Write;
@@ -102,6 +103,18 @@ impl Stop {
             FileError::TooLong => Stop::refused(alloc, name, Reason::TooLong),
             FileError::Bad(error) => Stop::refused(alloc, name, Reason::BadCapture { error }),
             FileError::Memory => Stop::NoMemory,
+        }
+    }
+
+    /// The marked records of this capture could not be given.
+    pub fn of_stream(alloc: Global, name: &str, error: MeterError) -> Stop
+        ensures { IsAnswer (stream_answer name.now error) (stop_shown result) }
+    {
+        match error {
+            MeterError::File(error) => Stop::of_capture(alloc, name, error),
+            MeterError::HeadersCut { number } => {
+                Stop::refused(alloc, name, Reason::HeadersCut { number })
+            }
         }
     }
 

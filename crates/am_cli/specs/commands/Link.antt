@@ -2,7 +2,7 @@
 use Rattle.std.specs.Prelude.{◌≡◌, ℕ, ◌%◌, ◌^◌, ◌<◌, ◌≤◌, List, [], ◌∷◌}
 use Rattle.am_clock.specs.Times.{Times}
 use Rattle.am_ip6.specs.declared.marks.Place.TheVariants.{HopByHop}
-use Rattle.am_cli.specs.MeterStub.{Marked}
+use Rattle.am_meter.specs.declared.stream.Marked.{Marked}
 use Rattle.am_cli.specs.Chains.{Chain}
 use Rattle.am_cli.specs.Chains.Chain.{Reads, Prints}
 use Rattle.am_cli.specs.Inputs.{JudgesCapture}

@@ -5,7 +5,7 @@ ghost use Rattle.am_cli.specs.commands.Link.{Link, SaysNumbers, SaysLink, link_c
 ghost use Rattle.am_cli.specs.Shown.{link_shown, answer_of};
 
 use crate::answer::Stop;
-use crate::counting::count_file;
+use crate::counting::Point;
 use crate::table::{Side, Table};
 use crate::words::{is_file_name, number};
 use am_base::{Shelf, Sink, put};
@@ -132,31 +132,23 @@ pub fn link<S: Shelf, O: Sink>(
     }
 {
     let mut table = Table::new(alloc);
-    let timing = words.timing;
-    let shift = timing.delay_min();
-    match count_file(
-        alloc,
-        shelf,
-        words.up,
-        &timing,
-        words.flow,
-        0,
-        Side::Entered,
-        &mut table,
-    ) {
+    let first = Point {
+        timing: words.timing,
+        flow: words.flow,
+        shift: 0,
+        side: Side::Entered,
+    };
+    match first.count_file(alloc, shelf, words.up, &mut table) {
         Ok(()) => {}
         Err(stop) => return Err(stop),
     }
-    match count_file(
-        alloc,
-        shelf,
-        words.down,
-        &timing,
-        words.flow,
-        shift,
-        Side::Left,
-        &mut table,
-    ) {
+    let second = Point {
+        timing: words.timing,
+        flow: words.flow,
+        shift: words.timing.delay_min(),
+        side: Side::Left,
+    };
+    match second.count_file(alloc, shelf, words.down, &mut table) {
         Ok(()) => {}
         Err(stop) => return Err(stop),
     }

@@ -1,4 +1,15 @@
+use Rattle.am_cli.proofs.InputLemmas.{whole-begins, domain-excludes}
 use Rattle.am_cli.proofs.laws.laws.Goals as goal
 
 pub returns : goal.returns
-returns c = ?
+returns c = record {
+  capture = record {
+    header = λ bytes h ps e whole refused. c.beginnings_agree.ensures.not_refused bytes h ps e (whole-begins bytes h ps whole) refused;
+    records = λ bytes h ps qs e whole refused. c.captures_are_one.ensures.not_refused bytes h ps e qs whole.capture refused;
+    front = λ bytes h k ps qs begins whole.
+        let front = c.beginnings_agree.ensures.capture bytes h k ps qs begins whole.capture in
+        record { head = front.0; more = front.1; packets = front.2 };
+  };
+  marks = λ place. record { never = λ bytes ms reason taken refused. c.marks_are_one.ensures.not_refused place bytes ms refused.0 taken refused.1 };
+  domain = record { never = domain-excludes c.domain_law.ensures.either };
+}

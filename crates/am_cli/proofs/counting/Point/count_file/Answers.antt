@@ -1,0 +1,2 @@
+use Rattle.am_cli.proofs.InputLemmas.{stream-stops}
+use Rattle.am_cli.proofs.counting.Point.count_file.Goals as goal
