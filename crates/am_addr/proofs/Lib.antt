@@ -6,3 +6,4 @@ pub mod Alike
 pub mod Slash
 pub mod Runs
 pub mod ReadBack
+pub mod TextAlone
