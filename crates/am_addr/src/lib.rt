@@ -11,6 +11,6 @@ mod prefix;
 mod printed;
 
 pub use address::{Addr, parse};
-pub use laws::a_text_is_one_prefix;
+pub use laws::prefix_text_law;
 pub use prefix::Prefix;
 pub use printed::print;

@@ -15,7 +15,7 @@ use crate::error::DomainError;
 use crate::fields::{Fields, read_fields};
 use crate::flow::Flow;
 use crate::judge::{check_blocks, check_counts, check_ends, check_links, check_repeats};
-use crate::laws::one_domain_or_one_refusal;
+use crate::laws::domain_law;
 use crate::link::Edge;
 use crate::network::number_of;
 use crate::node::Node;
@@ -281,7 +281,7 @@ pub fn read_domain(alloc: Global, bytes: &[u8]) -> Result<Domain, DomainError>
     ensures found { (d : DomainValue) → IsDomainOf bytes.now d → IsAnswer result (Ok d) }
     ensures refused { (e : ErrorValue) → IsDomainRefusal bytes.now e → IsAnswer result (Err e) }
 {
-    one_domain_or_one_refusal();
+    domain_law();
     said_by(alloc, bytes)
 }
 

@@ -4,10 +4,10 @@ ghost use Rattle.std.specs.Prelude.{◌≡◌, ℕ, List};
 ghost use Rattle.am_domain.specs.Domains.{DomainValue, IsDomainOf, IsDomainRefusal};
 ghost use Rattle.am_domain.specs.declared.error.DomainError.{DomainError};
 
-use am_addr::a_text_is_one_prefix;
+use am_addr::prefix_text_law;
 
 /// Bytes say at most one domain, or are refused in at most one way, and never both.
-pub fn one_domain_or_one_refusal()
+pub fn domain_law()
     ensures domain { (bytes : List ℕ) (a b : DomainValue)
         → IsDomainOf bytes a → IsDomainOf bytes b → a ≡ b }
     ensures refusal { (bytes : List ℕ) (a b : DomainError)
@@ -15,5 +15,5 @@ pub fn one_domain_or_one_refusal()
     ensures either { (bytes : List ℕ) (d : DomainValue) (e : DomainError)
         → IsDomainOf bytes d → IsDomainRefusal bytes e → ⊥ }
 {
-    a_text_is_one_prefix();
+    prefix_text_law();
 }

@@ -29,6 +29,6 @@ mod tests;
 pub use domain::{Domain, read_domain};
 pub use error::{DomainError, Key, Part, Repeated};
 pub use flow::Flow;
-pub use laws::one_domain_or_one_refusal;
+pub use laws::domain_law;
 pub use link::Edge;
 pub use node::Node;

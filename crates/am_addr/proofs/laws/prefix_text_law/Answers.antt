@@ -1,5 +1,5 @@
 use Rattle.am_addr.proofs.TextAlone.{address-alone, prefix-alone}
-use Rattle.am_addr.proofs.laws.a_text_is_one_prefix.Goals as goal
+use Rattle.am_addr.proofs.laws.prefix_text_law.Goals as goal
 
 pub returns-clause-address : goal.returns-clause-address
 returns-clause-address c = address-alone
