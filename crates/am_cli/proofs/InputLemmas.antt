@@ -12,7 +12,7 @@ use Rattle.am_pcap.specs.CaptureFiles.{Begins, BeginsWith, IsWholeCapture}
 use Rattle.am_pcap.specs.declared.head.Head.{Head}
 use Rattle.am_pcap.specs.declared.capture.FileError.TheVariants as file
 use Rattle.am_meter.specs.Marks.{MarksRefusal, JudgesMarks, RefusesMarks}
-use Rattle.am_meter.specs.Marks.MarksRefusal as marks
+use Rattle.am_meter.specs.Marks.MarksRefusal.{Long, BadCapture as RefusedMarks, HeadersCut as CutMarks}
 use Rattle.am_meter.specs.Streaming.{Streaming}
 use Rattle.am_meter.specs.Streams.{StreamsOn, EndsStream, StopsStream, WhyStreamStopped, WhyNotStreamed}
 use Rattle.am_meter.specs.declared.stream.Marked.{Marked}
@@ -102,7 +102,7 @@ not-streamed before after name (meter.File file.Missing) why missing failed = ((
 not-streamed before after name (meter.File file.ReadFault) why missing failed = (refl, failed refl)
 not-streamed before after name (meter.File file.TooLong) why missing failed = absurd why
 not-streamed before after name (meter.File (file.Bad error)) why missing failed =
-    (refl, marks-refused before.told name (marks.BadCapture error) [] why.1)
+    (refl, marks-refused before.told name (RefusedMarks error) [] why.1)
 not-streamed before after name (meter.File file.Memory) why missing failed = tt
 not-streamed before after name (meter.HeadersCut number) why missing failed = absurd why
 
@@ -126,17 +126,17 @@ not-streamed-on before now after name place ms (meter.File file.Missing) is why 
 not-streamed-on before now after name place ms (meter.File file.ReadFault) is why failed faults =
     (refl, rose-later before.faults now.faults after.faults faults (failed refl))
 not-streamed-on before now after name place ms (meter.File file.TooLong) is why failed faults =
-    (refl, marks-refused before.told name marks.Long ms (subst (λ p. OnFile before.told name (λ bytes. RefusesMarks p bytes marks.Long ms)) is why))
+    (refl, marks-refused before.told name Long ms (subst (λ p. OnFile before.told name (λ bytes. RefusesMarks p bytes Long ms)) is why))
 not-streamed-on before now after name place ms (meter.File (file.Bad error)) is why failed faults = (
   refl,
-  marks-refused before.told name (marks.BadCapture error) ms
-      (subst (λ p. OnFile before.told name (λ bytes. RefusesMarks p bytes (marks.BadCapture error) ms)) is why),
+  marks-refused before.told name (RefusedMarks error) ms
+      (subst (λ p. OnFile before.told name (λ bytes. RefusesMarks p bytes (RefusedMarks error) ms)) is why),
 )
 not-streamed-on before now after name place ms (meter.File file.Memory) is why failed faults = absurd why
 not-streamed-on before now after name place ms (meter.HeadersCut number) is why failed faults = (
   refl,
-  marks-refused before.told name (marks.HeadersCut number) ms
-      (subst (λ p. OnFile before.told name (λ bytes. RefusesMarks p bytes (marks.HeadersCut number) ms)) is why),
+  marks-refused before.told name (CutMarks number) ms
+      (subst (λ p. OnFile before.told name (λ bytes. RefusesMarks p bytes (CutMarks number) ms)) is why),
 )
 
 -- why there is no next marked record is a stop at its file

@@ -4,7 +4,7 @@ use Rattle.am_ip6.specs.declared.marks.Place.{Place}
 use Rattle.am_domain.specs.Domains.{DomainValue, IsDomainOf, IsDomainRefusal}
 use Rattle.am_meter.specs.Marks.{MarksRefusal, JudgesMarks}
 use Rattle.am_meter.specs.declared.stream.Marked.{Marked}
-use Rattle.am_meter.specs.Marks.MarksRefusal as marks
+use Rattle.am_meter.specs.Marks.MarksRefusal.{Long, BadCapture as RefusedMarks, HeadersCut as CutMarks}
 use Rattle.am_cli.specs.Answers.{Reason}
 use Rattle.am_cli.specs.Answers.Reason.{TooLong, BadCapture, HeadersCut, BadDomain}
 
@@ -22,9 +22,9 @@ JudgesDomain bytes (Err (HeadersCut number)) = ⊥
 
 -- why a capture is refused that is taken for its marked records
 abbrev pub marks_reason : MarksRefusal → Reason
-marks_reason marks.Long = TooLong
-marks_reason (marks.BadCapture error) = BadCapture error
-marks_reason (marks.HeadersCut number) = HeadersCut number
+marks_reason Long = TooLong
+marks_reason (RefusedMarks error) = BadCapture error
+marks_reason (CutMarks number) = HeadersCut number
 
 -- a capture that is taken for its marked records in this kind of header
 abbrev pub JudgesCapture : Place → List ℕ → Result (List Marked) Reason → Type 0

@@ -5,7 +5,7 @@ pub returns : goal.returns
 returns c = record {
   capture = record {
     header = λ bytes h ps e whole refused. c.beginnings_agree.ensures.not_refused bytes h ps e (whole-begins bytes h ps whole) refused;
-    records = λ bytes h ps qs e whole refused. c.captures_are_one.ensures.not_refused bytes h ps e qs whole.capture refused;
+    records = λ bytes h ps qs e whole refused. c.captures_are_one.ensures.not_refused bytes h e ps qs whole.capture refused;
     front = λ bytes h k ps qs begins whole.
         let front = c.beginnings_agree.ensures.capture bytes h k ps qs begins whole.capture in
         record { head = front.0; more = front.1; packets = front.2 };
