@@ -9,3 +9,7 @@ pub mod FieldAlone
 pub mod RuleAlone
 pub mod SaysAlone
 pub mod ReadAlone
+pub mod Shorter
+pub mod FewItems
+pub mod ShortDocuments
+pub mod CountLemmas

@@ -5,6 +5,7 @@ pub mod First
 pub mod Tables
 pub mod Entries
 pub mod Fields
+pub mod Sizes
 pub mod Lists
 pub mod Network
 pub mod Rules

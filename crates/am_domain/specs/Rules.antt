@@ -8,7 +8,6 @@ use Rattle.am_domain.specs.Fields.{FieldsValue}
 use Rattle.am_domain.specs.Lists.{AllBelow, IsFirstPlace, DistinctBelow, IsFirstPair}
 use Rattle.am_domain.specs.Network.{IsBetween, IsLoose, Joins, SameEnds, HasLink, IsLone, IsFirstBlock, IsEndBlock}
 use Rattle.am_domain.specs.declared.link.Edge.{Edge}
-use Rattle.am_domain.specs.declared.error.Part.{Part}
 use Rattle.am_domain.specs.declared.error.Part.TheVariants as part
 use Rattle.am_domain.specs.declared.error.Repeated.TheVariants.{FlowName, FlowId, NodeName}
 use Rattle.am_domain.specs.declared.error.DomainError.{DomainError}
@@ -139,12 +138,6 @@ pub record IsFirstBroken (f : FieldsValue) (e : DomainError) : Type 0 where
 abbrev pub TellsBroken : FieldsValue → DomainError → Type 0
 TellsBroken f Memory = Unit {0}
 TellsBroken f e = IsFirstBroken f e
-
--- what the refusal of too many says: the part and how many there are, or want of memory
-abbrev pub TellsMany : Part → ℕ → DomainError → Type 0
-TellsMany at found (TooMany part count) = (part ≡ at) × (count ≡ found)
-TellsMany at found Memory = Unit {0}
-TellsMany at found _ = ⊥
 
 -- what the judging of the blocks answers, over these links
 abbrev pub TellsBlocks : FieldsValue → List Edge → DomainError → Type 0

@@ -7,6 +7,7 @@ ghost use Rattle.am_domain.specs.Fields.{Says};
 ghost use Rattle.am_domain.specs.Lookups.{IsFirstWith, NoneHas, HasId, Holds};
 ghost use Rattle.am_domain.specs.Network.{shift_at, IsNumberOf, IsNoNode};
 ghost use Rattle.am_domain.specs.Rules.{TellsBroken};
+ghost use Rattle.am_domain.specs.Sizes.{HasFewItems};
 ghost use Rattle.am_domain.specs.Values.{FlowValue};
 ghost use Rattle.am_domain.specs.declared.error.DomainError.{DomainError as ErrorValue};
 
@@ -219,7 +220,7 @@ fn holds(flow: &Flow, source: &Addr, destination: &Addr) -> bool
 
 // The domain that the parts of a file make, or the first rule that they break.
 fn domain_of(alloc: Global, fields: Fields) -> Result<Domain, DomainError>
-    requires { (ms : Members) × Says ms fields }
+    requires { (ms : Members) × HasFewItems ms × Says ms fields }
     ensures ok { IfOk result (λ d. IsMadeOf fields d) }
     ensures err { IfErr result (λ e. TellsBroken fields e) }
 {

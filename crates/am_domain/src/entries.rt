@@ -1,10 +1,11 @@
 //! Arrays of tables: each item is a table that says a flow, a node or a link.
 
-ghost use Rattle.std.specs.Prelude.{◌≡◌, ℕ, List, map, IfOk, IfErr, IfSome, IfNone, Some, option_map};
+ghost use Rattle.std.specs.Prelude.{◌≡◌, ◌^◌, ◌<◌, map, length, IfOk, IfErr, IfSome, IfNone, Some, option_map};
 ghost use Rattle.std.specs.List.{AllZip};
 ghost use Rattle.toml.specs.Data.{Members, Items, array};
 ghost use Rattle.toml.specs.View.{view, table_view, items_of};
 ghost use Rattle.am_domain.specs.Entries.{TellsKey, TellsBadItem, TellsItem, TellsEntry, AreEntries, IsTableOf, data_at};
+ghost use Rattle.am_domain.specs.Sizes.{IsFewAt};
 ghost use Rattle.am_domain.specs.declared.error.Part.{Part};
 
 use crate::error::Key;
@@ -49,6 +50,7 @@ pub(crate) fn entries<T: Entry + Drop>(
     alloc: Global,
     value: Option<&Value>,
 ) -> Result<Vec<T>, EntryFault>
+    requires { IsFewAt (data_at value) }
     ensures ok { IfOk result (λ v. AreEntries T.says (data_at value.entry) v.items) }
     ensures bad { IfErr result (λ e. TellsEntry T.part T.says (data_at value.entry) e) }
 {
@@ -87,6 +89,7 @@ fn array_in(value: Option<&Value>) -> Option<&[Value]>
 
 // What each item says, or the first bad one.
 fn read_items<T: Entry + Drop>(alloc: Global, items: &[Value]) -> Result<Vec<T>, EntryFault>
+    requires { length items.now < 2 ^ 32 }
     ensures ok { IfOk result (λ v. AllZip (IsTableOf T.says) (map view items.now) v.items) }
     ensures bad { IfErr result (λ e. TellsItem T.part T.says (map view items.now) e) }
 {
@@ -99,12 +102,8 @@ fn read_items<T: Entry + Drop>(alloc: Global, items: &[Value]) -> Result<Vec<T>,
                 };
             }
             Err(ItemFault::Bad(key)) => {
-                // The place always fits: see `too_many` in `judge`.
-                let Ok(index) = u32::try_from(i) else {
-                    return Err(EntryFault::Memory);
-                };
                 return Err(EntryFault::Bad {
-                    index: Some(index),
+                    index: Some(i as u32),
                     key,
                 });
             }

@@ -4,6 +4,7 @@ ghost use Rattle.std.specs.Prelude.{◌≡◌, ℕ, List, IfOk, IfErr};
 ghost use Rattle.toml.specs.View.{table_view};
 ghost use Rattle.am_domain.specs.Tables.{IsBadKey};
 ghost use Rattle.am_domain.specs.Fields.{SaysTimes, SaysMarking, TimingSays, MarkingSays, FlowsSay, NodesSay, LinksSay, Says, TellsPart, TellsField};
+ghost use Rattle.am_domain.specs.Sizes.{HasFewItems};
 ghost use Rattle.am_domain.specs.declared.error.Part.TheVariants as part;
 
 use crate::entries::{EntryFault, entries};
@@ -76,6 +77,7 @@ impl Model for Fields {
 
 /// What the document says, or its first bad part.
 pub(crate) fn read_fields(alloc: Global, table: &Table) -> Result<Fields, DomainError>
+    requires { HasFewItems (table_view table.now) }
     ensures ok { IfOk result (λ f. Says (table_view table.now) f) }
     ensures bad { IfErr result (λ e. TellsField (table_view table.now) e) }
 {
@@ -208,6 +210,7 @@ fn marking_in(marking: &Table) -> Result<Marking, Key>
 
 // The flows that the file says.
 fn read_flows(alloc: Global, table: &Table) -> Result<Vec<Flow>, DomainError>
+    requires { HasFewItems (table_view table.now) }
     ensures ok { IfOk result (λ v. FlowsSay (table_view table.now) v.items) }
     ensures bad { IfErr result (λ e. TellsPart (table_view table.now) part.Flow e) }
 {
@@ -224,6 +227,7 @@ fn read_flows(alloc: Global, table: &Table) -> Result<Vec<Flow>, DomainError>
 
 // The nodes that the file says.
 fn read_nodes(alloc: Global, table: &Table) -> Result<Vec<Node>, DomainError>
+    requires { HasFewItems (table_view table.now) }
     ensures ok { IfOk result (λ v. NodesSay (table_view table.now) v.items) }
     ensures bad { IfErr result (λ e. TellsPart (table_view table.now) part.Node e) }
 {
@@ -240,6 +244,7 @@ fn read_nodes(alloc: Global, table: &Table) -> Result<Vec<Node>, DomainError>
 
 // The links that the file says.
 fn read_links(alloc: Global, table: &Table) -> Result<Vec<Link>, DomainError>
+    requires { HasFewItems (table_view table.now) }
     ensures ok { IfOk result (λ v. LinksSay (table_view table.now) v.items) }
     ensures bad { IfErr result (λ e. TellsPart (table_view table.now) part.Link e) }
 {

@@ -3,7 +3,8 @@
 ghost use Rattle.std.specs.Prelude.{◌≡◌, ℕ, ◌-◌, ◌*◌, ◌<◌, ◌≤◌, List, length, OnOk, IfErr, IfOk};
 ghost use Rattle.std.specs.List.{AllZip};
 ghost use Rattle.am_domain.specs.Network.{Joins};
-ghost use Rattle.am_domain.specs.Rules.{KeepsFirst, TellsBroken, TellsMany, TellsBlocks, IsLaidOut};
+ghost use Rattle.am_domain.specs.Rules.{KeepsFirst, TellsBroken, TellsBlocks, IsLaidOut};
+ghost use Rattle.am_domain.specs.Sizes.{CountsFit};
 
 use crate::blocks::reported;
 use crate::error::{DomainError, Part, Repeated};
@@ -29,37 +30,33 @@ const MOST_CELLS: u128 = 32_768;
 
 /// Whether there are too many nodes, links or flows.
 pub(crate) fn check_counts(fields: &Fields) -> Result<(), DomainError>
-    requires { KeepsFirst fields.now 1 }
+    requires kept { KeepsFirst fields.now 1 }
+    requires fit { CountsFit fields.now }
     ensures ok { OnOk result (KeepsFirst fields.now 4) }
     ensures err { IfErr result (λ e. TellsBroken fields.now e) }
 {
     let nodes = fields.nodes.len();
     if nodes > MOST_NODES {
-        return Err(too_many(Part::Node, nodes));
+        return Err(DomainError::TooMany {
+            part: Part::Node,
+            count: nodes as u32,
+        });
     }
     let links = fields.links.len();
     if links > MOST_LINKS {
-        return Err(too_many(Part::Link, links));
+        return Err(DomainError::TooMany {
+            part: Part::Link,
+            count: links as u32,
+        });
     }
     let flows = fields.flows.len();
     if flows > MOST_FLOWS {
-        return Err(too_many(Part::Flow, flows));
+        return Err(DomainError::TooMany {
+            part: Part::Flow,
+            count: flows as u32,
+        });
     }
     Ok(())
-}
-
-// The refusal of so many.
-//
-// The count always fits: a domain file has at most 1,048,576 bytes, and each table takes one at least. But no clause
-// of `toml` bounds how many items it reads from so many bytes, so the prover can't see it. Where the count didn't
-// fit, the answer would be want of memory.
-fn too_many(part: Part, count: usize) -> DomainError
-    ensures { TellsMany part count result }
-{
-    let Ok(count) = u32::try_from(count) else {
-        return DomainError::Memory;
-    };
-    DomainError::TooMany { part, count }
 }
 
 /// Whether two flows or two nodes have the same name, or two flows the same number.
