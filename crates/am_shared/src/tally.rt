@@ -78,10 +78,8 @@ impl Tally {
         ensures given { (left_of result ≡ budget) × (made_of result ≡ 0) }
         ensures no_share { (s : ℕ) (c : Bool) (w : Word) → pass_share result s c w ≡ 0 }
         ensures told { pass_seens result ≡ pass_seens pass.old }
-        ensures enough_told {
-            (s : ℕ) (c : Bool) (w : Word)
-            → pass_share pass.old s c w ≤ pass_seen result s c w
-        }
+        ensures enough_told { (s : ℕ) (c : Bool) (w : Word)
+            → pass_share pass.old s c w ≤ pass_seen result s c w }
     {
         let seat = self.give::<Brand>(&mut pass.seat, budget);
         pass.left -= budget;
@@ -117,14 +115,10 @@ impl Tally {
         ensures own { IsOf self.now pass.new }
         ensures left { left_of pass.new + 1 ≡ left_of pass.old }
         ensures made { made_of pass.new ≡ made_of pass.old + 1 }
-        ensures shares {
-            (s : ℕ) (c : Bool) (w : Word)
-            → pass_share pass.new s c w ≡ pass_share pass.old s c w + gain slot colour delay offset s c w
-        }
-        ensures seen {
-            (s : ℕ) (c : Bool) (w : Word)
-            → pass_seen pass.new s c w ≡ max (pass_seen pass.old s c w) (pass_share pass.new s c w)
-        }
+        ensures shares { (s : ℕ) (c : Bool) (w : Word)
+            → pass_share pass.new s c w ≡ pass_share pass.old s c w + gain slot colour delay offset s c w }
+        ensures seen { (s : ℕ) (c : Bool) (w : Word)
+            → pass_seen pass.new s c w ≡ max (pass_seen pass.old s c w) (pass_share pass.new s c w) }
     {
         self.count(pass, place_of(slot, colour, Word::Count));
         self.raise(pass, place_of(slot, colour, Word::Sum), offset);
@@ -173,20 +167,16 @@ impl Tally {
         ensures own { IsOf self.now pass.new }
         ensures share { pass_share pass.old slot colour word ≤ result }
         ensures seen { pass_seen pass.old slot colour word ≤ result }
-        ensures exact {
-            made_of pass.old + left_of pass.old ≡ budget_of self.now
-            → result ≡ pass_share pass.old slot colour word
-        }
+        ensures exact { made_of pass.old + left_of pass.old ≡ budget_of self.now
+            → result ≡ pass_share pass.old slot colour word }
 
         // What is left of the pass as it was, and what was seen.
         ensures left { left_of pass.new ≡ left_of pass.old }
         ensures made { made_of pass.new ≡ made_of pass.old }
         ensures shares { pass_shares pass.new ≡ pass_shares pass.old }
-        ensures sees {
-            (s : ℕ) (c : Bool) (w : Word)
+        ensures sees { (s : ℕ) (c : Bool) (w : Word)
             → pass_seen pass.new s c w
-                ≡ (if same_place s c w slot colour word then result else pass_seen pass.old s c w)
-        }
+            ≡ (if same_place s c w slot colour word then result else pass_seen pass.old s c w) }
     {
         let place = place_of(slot, colour, word);
         self.table.shared.load::<Looking>(&mut pass.seat, place)
@@ -200,15 +190,11 @@ impl Tally {
         ensures own { IsOf self.now pass.new }
         ensures left { left_of pass.new ≡ left_of pass.old + left_of other }
         ensures made { made_of pass.new ≡ made_of pass.old + made_of other }
-        ensures shares {
-            (s : ℕ) (c : Bool) (w : Word)
-            → pass_share pass.new s c w ≡ pass_share pass.old s c w + pass_share other s c w
-        }
-        ensures seen {
-            (s : ℕ) (c : Bool) (w : Word)
+        ensures shares { (s : ℕ) (c : Bool) (w : Word)
+            → pass_share pass.new s c w ≡ pass_share pass.old s c w + pass_share other s c w }
+        ensures seen { (s : ℕ) (c : Bool) (w : Word)
             → pass_seen pass.new s c w
-                ≡ max (max (pass_seen pass.old s c w) (pass_seen other s c w)) (pass_share pass.new s c w)
-        }
+            ≡ max (max (pass_seen pass.old s c w) (pass_seen other s c w)) (pass_share pass.new s c w) }
     {
         let Pass { seat, left, made } = other;
         self.table.shared.join_seat::<Joining>(&mut pass.seat, seat);
