@@ -1,5 +1,5 @@
 -- What an add and a read make of what a pass knows, by slot, colour and word.
-use Rattle.std.proofs.Common.{◌≡◌, ◌≢◌, ℕ, ◌+◌, ◌-◌, ◌*◌, ◌<◌, ◌≤◌, max, Bool, true, false, ◌&&◌, nat_eq, if◌then◌else◌, sym, refl, ap, subst, ◌∙◌, arith, eq-eqb, ne_eqb}
+use Rattle.std.proofs.Common.{◌≡◌, ◌≢◌, ℕ, ◌+◌, ◌*◌, ◌<◌, ◌≤◌, max, Bool, true, false, ◌&&◌, nat_eq, if◌then◌else◌, sym, refl, ap, subst, ◌∙◌, arith, eq-eqb, ne_eqb}
 use mathlib.Core.Logic.{dite}
 use native.Mathlib.Decide.{ℕ_discrete}
 use Rattle.am_shared.specs.declared.rule.View.{View}
@@ -25,15 +25,15 @@ places : (s t p q x y : ℕ) → p < 2 → q < 2 → x < 4 → y < 4
     → nat_eq (s * 8 + p * 4 + x) (t * 8 + q * 4 + y) ≡ (nat_eq s t && nat_eq p q && nat_eq x y)
 places s t p q x y bp bq bx by' = dite (ℕ_discrete s t)
     (λ (e : s ≡ t). dite (ℕ_discrete p q)
-      (λ (f : p ≡ q). dite (ℕ_discrete x y)
-        (λ (g : x ≡ y). let here : s * 8 + p * 4 + x ≡ t * 8 + q * 4 + y = omega arith in
-          rw (eq-eqb (s * 8 + p * 4 + x) (t * 8 + q * 4 + y) here, eq-eqb s t e, eq-eqb p q f, eq-eqb x y g) refl)
-        (λ (g : x ≢ y). let away : s * 8 + p * 4 + x ≢ t * 8 + q * 4 + y = λ h. g (omega arith) in
-          rw (ne_eqb (s * 8 + p * 4 + x) (t * 8 + q * 4 + y) away, eq-eqb s t e, eq-eqb p q f, ne_eqb x y g) refl))
-      (λ (f : p ≢ q). let away : s * 8 + p * 4 + x ≢ t * 8 + q * 4 + y = λ h. f (omega arith) in
-        rw (ne_eqb (s * 8 + p * 4 + x) (t * 8 + q * 4 + y) away, eq-eqb s t e, ne_eqb p q f) refl))
+    (λ (f : p ≡ q). dite (ℕ_discrete x y)
+    (λ (g : x ≡ y). let here : s * 8 + p * 4 + x ≡ t * 8 + q * 4 + y = omega arith in
+    rw (eq-eqb (s * 8 + p * 4 + x) (t * 8 + q * 4 + y) here, eq-eqb s t e, eq-eqb p q f, eq-eqb x y g) refl)
+    (λ (g : x ≢ y). let away : s * 8 + p * 4 + x ≢ t * 8 + q * 4 + y = λ h. g (omega arith) in
+    rw (ne_eqb (s * 8 + p * 4 + x) (t * 8 + q * 4 + y) away, eq-eqb s t e, eq-eqb p q f, ne_eqb x y g) refl))
+    (λ (f : p ≢ q). let away : s * 8 + p * 4 + x ≢ t * 8 + q * 4 + y = λ h. f (omega arith) in
+    rw (ne_eqb (s * 8 + p * 4 + x) (t * 8 + q * 4 + y) away, eq-eqb s t e, ne_eqb p q f) refl))
     (λ (e : s ≢ t). let away : s * 8 + p * 4 + x ≢ t * 8 + q * 4 + y = λ h. e (omega arith) in
-      rw (ne_eqb (s * 8 + p * 4 + x) (t * 8 + q * 4 + y) away, ne_eqb s t e) refl)
+    rw (ne_eqb (s * 8 + p * 4 + x) (t * 8 + q * 4 + y) away, ne_eqb s t e) refl)
 
 -- two words of the table are one exactly where slot, colour and word are
 pub one-place : (s t : ℕ) (c d : Bool) (w x : Word)
@@ -61,7 +61,7 @@ room v w j k sound made same le = let before = sound.bounded j in omega arith
 share-after : (v w : View) (i k : ℕ) → Raises v w i k → (j : ℕ) → share_at w j ≡ share_at v j + (if nat_eq j i then k else 0)
 share-after v w i k r j = dite (ℕ_discrete j i)
     (λ (e : j ≡ i). let P : ℕ → Type 0 = λ z. share_at w z ≡ share_at v z + k in
-      rw (eq-eqb j i e) (subst P (sym e) r.here))
+    rw (eq-eqb j i e) (subst P (sym e) r.here))
     (λ (apart : j ≢ i). let same = r.others j apart in rw (ne_eqb j i apart) (omega arith))
 
 -- the same where the words are named
@@ -82,8 +82,8 @@ gains-plain false offset w = refl
 
 gains-delay : (here : Bool) (offset : ℕ) (w : Word)
     → (if here && same_word w Count then 1 else 0) + (if here && same_word w Sum then offset else 0)
-      + (if here && same_word w DelayCount then 1 else 0) + (if here && same_word w DelaySum then offset else 0)
-      ≡ (if here then packet_gain true offset w else 0)
+    + (if here && same_word w DelayCount then 1 else 0) + (if here && same_word w DelaySum then offset else 0)
+    ≡ (if here then packet_gain true offset w else 0)
 gains-delay true offset Count = refl
 gains-delay true offset Sum = omega arith
 gains-delay true offset DelayCount = refl
@@ -126,7 +126,7 @@ sees-on v v1 v2 i k before r j =
 sees-after : (v : View) (i n j : ℕ) → seen_at (looked i n v) j ≡ (if nat_eq j i then n else seen_at v j)
 sees-after v i n j = dite (ℕ_discrete j i)
     (λ (e : j ≡ i). let P : ℕ → Type 0 = λ z. seen_at (looked i n v) z ≡ n in
-      rw (eq-eqb j i e) (subst P (sym e) (changed-here (λ _. n) v.seen i)))
+    rw (eq-eqb j i e) (subst P (sym e) (changed-here (λ _. n) v.seen i)))
     (λ (apart : j ≢ i). rw (ne_eqb j i apart) (changed-else (λ _. n) v.seen i j apart))
 
 pub sees-named : (v w : View) (t : ℕ) (d : Bool) (x : Word) (i n : ℕ) → i ≡ word_number t d x → w ≡ looked i n v → (s : ℕ) (c : Bool) (y : Word)

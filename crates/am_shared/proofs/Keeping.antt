@@ -1,10 +1,10 @@
 -- Each kind of step keeps the rule.
-use Rattle.std.proofs.Common.{◌≡◌, ◌≢◌, ℕ, zero, suc, ◌+◌, ◌-◌, ◌*◌, ◌/◌, ◌%◌, ◌^◌, ◌<◌, ◌≤◌, ◌⊎◌, max, List, [], ◌∷◌, ◌++◌, length, slice_index, get_or, set, sym, refl, ap, subst, ◌∙◌, inl, inr, ⊎_elim, arith, le_refl, le_trans, length-set, get_or-set_same, get_or-set_other, mul-le-mul_right, add-mul}
+use Rattle.std.proofs.Common.{◌≡◌, ◌≢◌, ℕ, zero, suc, ◌+◌, ◌*◌, ◌%◌, ◌^◌, ◌<◌, ◌≤◌, max, List, [], ◌∷◌, length, slice_index, set, sym, refl, ap, subst, ◌∙◌, inl, inr, ⊎_elim, arith, length-set, get_or-set_same, get_or-set_other, mul-le-mul_right, add-mul}
 use mathlib.Core.Option.{some, none, some-ne-none}
 use mathlib.Core.Logic.{dite}
 use native.Mathlib.Decide.{ℕ_discrete}
 use lib.ListN.{get_elem?}
-use Rattle.atomic_table.specs.Table.{State, Me, Step, step, keeps, stepped, Allows, Splits, Joins}
+use Rattle.atomic_table.specs.Table.{State, step, keeps, stepped, Allows, Splits, Joins}
 use Rattle.atomic_table.proofs.Lists.{at_set, at_snoc, set_again, set_here, set_else}
 use Rattle.am_shared.specs.declared.rule.View.{View}
 use Rattle.am_shared.specs.declared.rule.Scope.{Scope}
@@ -22,7 +22,7 @@ St = State (Unit {0}) View
 pub words-bounded : (scope : Scope) (s : St) → IsBalanced scope s → (i : ℕ) → slice_index s.words i ≤ MAX_BUDGET * MAX_OFFSET
 words-bounded scope s h i =
     let shares : total (λ v. share_at v i) s.views ≤ total (λ v. v.made) s.views * MAX_OFFSET =
-        total-le-times (λ v. share_at v i) (λ v. v.made) MAX_OFFSET s.views (λ j v at. (h.each j v at).sound.bounded i) in
+    total-le-times (λ v. share_at v i) (λ v. v.made) MAX_OFFSET s.views (λ j v at. (h.each j v at).sound.bounded i) in
     let made : total (λ v. v.made) s.views ≤ total rights s.views = total-le (λ v. v.made) rights s.views (λ v. omega arith) in
     let whole = h.whole in
     let small = h.small in
@@ -46,23 +46,23 @@ sums-after s id i k n v w sums at lt m is j =
     let t = total-set (λ u. share_at u j) s.views id v w at in
     let before = sums j in
     dite (ℕ_discrete j i)
-      (λ (e : j ≡ i).
-        let P : ℕ → Type 0 = λ z. share_at w z ≡ share_at v z + k in
-        let here : share_at w j ≡ share_at v j + k = subst P (sym e) m.here in
-        let Q : ℕ → Type 0 = λ z. slice_index (set s.words i n) z ≡ n in
-        let word : slice_index (set s.words i n) j ≡ n = subst Q (sym e) (get_or-set_same s.words i n 0 lt) in
-        let R : ℕ → Type 0 = λ z. n ≡ slice_index s.words z + k in
-        let is' : n ≡ slice_index s.words j + k = subst R (sym e) is in
-        omega arith)
-      (λ (apart : j ≢ i).
-        let same = m.others j apart in
-        let word : slice_index (set s.words i n) j ≡ slice_index s.words j = get_or-set_other s.words i j n 0 apart in
-        omega arith)
+    (λ (e : j ≡ i).
+    let P : ℕ → Type 0 = λ z. share_at w z ≡ share_at v z + k in
+    let here : share_at w j ≡ share_at v j + k = subst P (sym e) m.here in
+    let Q : ℕ → Type 0 = λ z. slice_index (set s.words i n) z ≡ n in
+    let word : slice_index (set s.words i n) j ≡ n = subst Q (sym e) (get_or-set_same s.words i n 0 lt) in
+    let R : ℕ → Type 0 = λ z. n ≡ slice_index s.words z + k in
+    let is' : n ≡ slice_index s.words j + k = subst R (sym e) is in
+    omega arith)
+    (λ (apart : j ≢ i).
+    let same = m.others j apart in
+    let word : slice_index (set s.words i n) j ≡ slice_index s.words j = get_or-set_other s.words i j n 0 apart in
+    omega arith)
 
 words-grow : (words : List ℕ) (i n : ℕ) → i < length words → slice_index words i ≤ n → (j : ℕ) → slice_index words j ≤ slice_index (set words i n) j
 words-grow words i n lt le j = dite (ℕ_discrete j i)
     (λ (e : j ≡ i). let P : ℕ → Type 0 = λ z. slice_index words z ≤ slice_index (set words i n) z in
-      let same = get_or-set_same words i n 0 lt in subst P (sym e) (omega arith))
+    let same = get_or-set_same words i n 0 lt in subst P (sym e) (omega arith))
     (λ (apart : j ≢ i). let same = get_or-set_other words i j n 0 apart in omega arith)
 
 fits-more : (scope : Scope) (words more : List ℕ) (v : View) → ((j : ℕ) → slice_index words j ≤ slice_index more j) → Fits scope words v → Fits scope more v
@@ -87,7 +87,7 @@ moved scope s h id i k n v w c at lt budget m is seen =
       whole = let t = total-set rights s.views id v w at in let same = m.rights_same in let whole = h.whole in omega arith;
       each = λ j u e. ⊎_elim
           (λ (x : (j ≡ id) × (w ≡ u)). let P : View → Type 0 = λ z. Fits scope (set s.words i n) z in
-            subst P x.1 (record { sound = m.sound; seen_there = seen; carries = inl (m.budget_same ∙ budget) }))
+          subst P x.1 (record { sound = m.sound; seen_there = seen; carries = inl (m.budget_same ∙ budget) }))
           (λ (x : (j ≢ id) × (get_elem? s.views j ≡ some u)). fits-more scope s.words (set s.words i n) u grow (h.each j u x.1))
           (at_set s.views id j w u e);
     }
@@ -120,7 +120,7 @@ adds scope slots id i k me w then lt budget r sound tells s h homes at small =
     let n : ℕ = slice_index s.words i in
     let m : Moves me.0 w i k = record { rights_same = r.rights_same; budget_same = r.budget_same; here = r.here; others = r.others; sound = sound } in
     let after : IsBalanced scope (stepped s i (n + k) id me.1 w keeps) =
-        moved scope s h id i k (n + k) me.0 w me.1 at lt budget m refl (seen-after s id i k (n + k) me.0 w scope h at lt r sound refl) in
+    moved scope s h id i k (n + k) me.0 w me.1 at lt budget m refl (seen-after s id i k (n + k) me.0 w scope h at lt r sound refl) in
     let wide = h.wide in
     let lt' : i < length s.words = omega arith in
     let bound : slice_index (set s.words i (n + k)) i ≤ MAX_BUDGET * MAX_OFFSET = words-bounded scope (stepped s i (n + k) id me.1 w keeps) after i in
@@ -148,14 +148,14 @@ pub counts : (scope : Scope) (slots id i : ℕ) (me : Sat) → i < scope.words �
     → Allows (IsBalanced scope) slots id me i (λ n. (n + 1) % 2 ^ 64) (did_count (step slots i 1 0 none) me)
 counts scope slots id i me lt budget sound some_left =
     adds scope slots id i 1 me (counted i me.0) (did_count (step slots i 1 0 none) me) lt budget (counted-raises me.0 i sound some_left)
-      (counted-sound me.0 i sound some_left) (λ n. refl)
+    (counted-sound me.0 i sound some_left) (λ n. refl)
 
 pub raises : (scope : Scope) (slots id i k : ℕ) (me : Sat) → i < scope.words → me.0.budget ≡ scope.budget → IsConsistent me.0
     → share_at me.0 i + k ≤ me.0.made * MAX_OFFSET
     → Allows (IsBalanced scope) slots id me i (λ n. (n + k) % 2 ^ 64) (did_raise (step slots i k 0 none) me)
 raises scope slots id i k me lt budget sound room =
     adds scope slots id i k me (raised i k me.0) (did_raise (step slots i k 0 none) me) lt budget (raised-raises me.0 i k sound)
-      (raised-sound me.0 i k sound room) (λ n. refl)
+    (raised-sound me.0 i k sound room) (λ n. refl)
 
 -- no share is above its word
 share-there : (scope : Scope) (s : St) → IsBalanced scope s → (id : ℕ) (v : View) → get_elem? s.views id ≡ some v → (i : ℕ) → share_at v i ≤ slice_index s.words i
@@ -172,13 +172,13 @@ finds scope s h id v at budget i = record {
   exact = λ all.
       let whole : total rights s.views ≡ rights v = h.whole ∙ sym budget ∙ sym all in
       let one : total (λ u. share_at u i) s.views ≡ share_at v i =
-          sole (λ u. share_at u i) rights s.views id v at
-            (λ j u at' none. let most = (h.each j u at').sound.bounded i in
-              let no_adds : u.made ≡ 0 = omega arith in
-              let P : ℕ → Type 0 = λ z. share_at u i ≤ z * MAX_OFFSET in
-              let least : share_at u i ≤ 0 = subst P no_adds most in
-              omega arith)
-            whole in
+      sole (λ u. share_at u i) rights s.views id v at
+      (λ j u at' none. let most = (h.each j u at').sound.bounded i in
+      let no_adds : u.made ≡ 0 = omega arith in
+      let P : ℕ → Type 0 = λ z. share_at u i ≤ z * MAX_OFFSET in
+      let least : share_at u i ≤ 0 = subst P no_adds most in
+      omega arith)
+      whole in
       h.summed i ∙ one;
 }
 
@@ -187,7 +187,7 @@ looked-sound v i n sound le = record {
   bounded = sound.bounded;
   own_seen = λ j. dite (ℕ_discrete j i)
       (λ (e : j ≡ i). let P : ℕ → Type 0 = λ z. share_at v z ≤ seen_at (looked i n v) z in
-        let now = changed-here (λ _. n) v.seen i in subst P (sym e) (omega arith))
+      let now = changed-here (λ _. n) v.seen i in subst P (sym e) (omega arith))
       (λ (apart : j ≢ i). let now = changed-else (λ _. n) v.seen i j apart in let own = sound.own_seen j in omega arith);
   small = sound.small;
 }
@@ -203,11 +203,11 @@ looks scope slots id i me lt budget sound s h homes at small =
     let lt' : i < length s.words = omega arith in
     let m : Moves me.0 w i 0 = record { rights_same = refl; budget_same = refl; here = omega arith; others = λ j apart. refl; sound = sound' } in
     let seen : (j : ℕ) → seen_at w j ≤ slice_index (set s.words i n) j =
-        λ j. dite (ℕ_discrete j i)
-          (λ (e : j ≡ i). let P : ℕ → Type 0 = λ z. seen_at w z ≤ slice_index (set s.words i n) z in
-            let now = changed-here (λ _. n) me.0.seen i in let word = get_or-set_same s.words i n 0 lt' in subst P (sym e) (omega arith))
-          (λ (apart : j ≢ i). let now = changed-else (λ _. n) me.0.seen i j apart in let word = get_or-set_other s.words i j n 0 apart in
-            let before = (h.each id me.0 at).seen_there j in omega arith) in
+    λ j. dite (ℕ_discrete j i)
+    (λ (e : j ≡ i). let P : ℕ → Type 0 = λ z. seen_at w z ≤ slice_index (set s.words i n) z in
+    let now = changed-here (λ _. n) me.0.seen i in let word = get_or-set_same s.words i n 0 lt' in subst P (sym e) (omega arith))
+    (λ (apart : j ≢ i). let now = changed-else (λ _. n) me.0.seen i j apart in let word = get_or-set_other s.words i j n 0 apart in
+    let before = (h.each id me.0 at).seen_there j in omega arith) in
     (w, keeps, tt, moved scope s h id i 0 n me.0 w me.1 at lt budget m (omega arith) seen, (refl, found))
 
 -- what stands at a place, written there again
@@ -267,10 +267,10 @@ gives scope id g v budget le s h at =
           omega arith;
       each = λ j u e. ⊎_elim
           (λ (was : get_elem? (set s.views id left) j ≡ some u). ⊎_elim
-            (λ (x : (j ≡ id) × (left ≡ u)).
-              subst P x.1 (record { sound = after-sound v g mine.sound le; seen_there = mine.seen_there; carries = inl budget }))
-            (λ (x : (j ≢ id) × (get_elem? s.views j ≡ some u)). h.each j u x.1)
-            (at_set s.views id j left u was))
+          (λ (x : (j ≡ id) × (left ≡ u)).
+          subst P x.1 (record { sound = after-sound v g mine.sound le; seen_there = mine.seen_there; carries = inl budget }))
+          (λ (x : (j ≢ id) × (get_elem? s.views j ≡ some u)). h.each j u x.1)
+          (at_set s.views id j left u was))
           (λ (same : right ≡ u). subst P same (record { sound = given-sound v g mine.sound le; seen_there = mine.seen_there; carries = inl budget }))
           (at_snoc (set s.views id left) right u j e);
     }
@@ -303,30 +303,30 @@ joins scope id v other w budget s h at apart at' =
     let mine = h.each id v at in
     let theirs : Fits scope s.words w = h.each other w (sym (set_else s.views id other both apart) ∙ at') in
     let sums : (i : ℕ) → slice_index s.words i ≡ total (λ u. share_at u i) (set vs other spent) =
-        λ i.
-          let t = total-set (λ u. share_at u i) s.views id v both at in
-          let t' = total-set (λ u. share_at u i) vs other w spent at' in
-          let is = h.summed i in
-          let more = joins-at v w i in
-          omega arith in
+    λ i.
+    let t = total-set (λ u. share_at u i) s.views id v both at in
+    let t' = total-set (λ u. share_at u i) vs other w spent at' in
+    let is = h.summed i in
+    let more = joins-at v w i in
+    omega arith in
     let whole : total rights (set vs other spent) ≡ scope.budget =
-        let t = total-set rights s.views id v both at in
-        let t' = total-set rights vs other w spent at' in
-        let is = h.whole in
-        omega arith in
+    let t = total-set rights s.views id v both at in
+    let t' = total-set rights vs other w spent at' in
+    let is = h.whole in
+    omega arith in
     let here : get_elem? (set vs other spent) id ≡ some both =
-        set_else vs other id spent (λ e. apart (sym e)) ∙ set_here s.views id both (at-below s.views id v at) in
+    set_else vs other id spent (λ e. apart (sym e)) ∙ set_here s.views id both (at-below s.views id v at) in
     let most = h.small in
     let part = part-le rights (set vs other spent) id both here in
     let sound : IsConsistent both = joined-sound v w mine.sound theirs.sound (omega arith) in
     let seen : (i : ℕ) → seen_at both i ≤ slice_index s.words i =
-        λ i.
-          let now = joins-seen v w i in
-          let a = mine.seen_there i in
-          let b = theirs.seen_there i in
-          let p = part-le (λ u. share_at u i) (set vs other spent) id both here in
-          let is = sums i in
-          omega arith in
+    λ i.
+    let now = joins-seen v w i in
+    let a = mine.seen_there i in
+    let b = theirs.seen_there i in
+    let p = part-le (λ u. share_at u i) (set vs other spent) id both here in
+    let is = sums i in
+    omega arith in
     let P : View → Type 0 = λ z. Fits scope s.words z in
     record {
       wide = h.wide;
@@ -336,9 +336,9 @@ joins scope id v other w budget s h at apart at' =
       each = λ j u e. ⊎_elim
           (λ (x : (j ≡ other) × (spent ≡ u)). subst P x.1 (spent-fits scope s.words))
           (λ (x : (j ≢ other) × (get_elem? vs j ≡ some u)). ⊎_elim
-            (λ (y : (j ≡ id) × (both ≡ u)). subst P y.1 (record { sound = sound; seen_there = seen; carries = inl budget }))
-            (λ (y : (j ≢ id) × (get_elem? s.views j ≡ some u)). h.each j u y.1)
-            (at_set s.views id j both u x.1))
+          (λ (y : (j ≡ id) × (both ≡ u)). subst P y.1 (record { sound = sound; seen_there = seen; carries = inl budget }))
+          (λ (y : (j ≢ id) × (get_elem? s.views j ≡ some u)). h.each j u y.1)
+          (at_set s.views id j both u x.1))
           (at_set vs other j spent u e);
     }
 

@@ -1,10 +1,10 @@
 -- What a step makes of the shares of a view and of what it has seen, place by place.
-use Rattle.std.proofs.Common.{◌≡◌, ◌≢◌, ℕ, zero, suc, ◌+◌, ◌-◌, ◌*◌, ◌≤◌, max, List, [], ◌∷◌, slice_index, sym, refl, ap, arith, subst, ◌∙◌, le_refl}
+use Rattle.std.proofs.Common.{◌≡◌, ◌≢◌, ℕ, zero, suc, ◌+◌, ◌*◌, ◌≤◌, max, List, [], ◌∷◌, slice_index, sym, refl, ap, arith, subst, ◌∙◌, le_refl}
 use mathlib.Core.Logic.{dite}
 use native.Mathlib.Decide.{ℕ_discrete}
 use Rattle.am_shared.specs.declared.rule.View.{View}
-use Rattle.am_shared.specs.declared.tally.TheConstants.{MAX_BUDGET, MAX_OFFSET}
-use Rattle.am_shared.specs.Views.{changed, zipped, share_at, seen_at, rights, raised, counted, looked, joined_views, after_giving, newcomer, shares_of_both}
+use Rattle.am_shared.specs.declared.tally.TheConstants.{MAX_OFFSET}
+use Rattle.am_shared.specs.Views.{changed, zipped, share_at, seen_at, rights, raised, counted}
 use Rattle.am_shared.specs.Rule.{IsConsistent}
 
 pub changed-here : (f : ℕ → ℕ) (xs : List ℕ) (i : ℕ) → slice_index (changed f xs i) i ≡ f (slice_index xs i)
@@ -56,10 +56,10 @@ others-after v i k j apart = changed-else (λ n. n + k) v.shares i j apart
 sees-after : (v : View) (i k : ℕ) → IsConsistent v → (j : ℕ) → seen_at (raised i k v) j ≡ max (seen_at v j) (share_at (raised i k v) j)
 sees-after v i k sound j = dite (ℕ_discrete j i)
     (λ (e : j ≡ i). let P : ℕ → Type 0 = λ z. seen_at (raised i k v) z ≡ max (seen_at v z) (share_at (raised i k v) z) in
-      subst P (sym e) (changed-here (λ n. max n (share_at v i + k)) v.seen i ∙ ap (λ n. max (seen_at v i) n) (sym (shares-after v i k))))
+    subst P (sym e) (changed-here (λ n. max n (share_at v i + k)) v.seen i ∙ ap (λ n. max (seen_at v i) n) (sym (shares-after v i k))))
     (λ (apart : j ≢ i). let own = sound.own_seen j in
-      let s = changed-else (λ n. max n (share_at v i + k)) v.seen i j apart in
-      let o = others-after v i k j apart in omega arith)
+    let s = changed-else (λ n. max n (share_at v i + k)) v.seen i j apart in
+    let o = others-after v i k j apart in omega arith)
 
 pub raised-raises : (v : View) (i k : ℕ) → IsConsistent v → Raises v (raised i k v) i k
 raised-raises v i k sound = record {

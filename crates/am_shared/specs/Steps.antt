@@ -1,5 +1,5 @@
 -- What one step does to the view of its pass, and what it tells.
-use Rattle.std.specs.Prelude.{◌≡◌, ℕ, ◌+◌, ◌≤◌}
+use Rattle.std.specs.Prelude.{◌≡◌, ℕ, ◌≤◌}
 use Rattle.atomic_table.specs.Table.{Me, Step}
 use Rattle.am_shared.specs.declared.tally.TheConstants.{MAX_BUDGET}
 use Rattle.am_shared.specs.declared.rule.View.{View}

@@ -1,5 +1,5 @@
 -- What a pass knows of a tally's words, as plain data: its share of each and what it has seen of each. A list is 0 past its end.
-use Rattle.std.specs.Prelude.{◌≡◌, ℕ, zero, suc, ◌+◌, ◌-◌, max, List, [], ◌∷◌, slice_index}
+use Rattle.std.specs.Prelude.{ℕ, zero, suc, ◌+◌, ◌-◌, max, List, [], ◌∷◌, slice_index}
 use Rattle.am_shared.specs.declared.rule.View.{View}
 
 -- the list with `f` of what stood at a place there

@@ -5,8 +5,8 @@
 //! passes that were joined into it, its share of each word, and what it has seen of each word. Each word is the sum of
 //! all shares of it, so whoever holds the one pass that all others were joined into reads exact sums.
 //!
-//! What a pass may not know is what others add beside it. Before the join a read is at least the pass's own share and at
-//! least all that it had seen, and nothing more is said: not how much another pass has added, nor in which order.
+//! What a pass may not know is what others add beside it. Before the join a read is at least the pass's own share and
+//! at least all that it had seen, and nothing more is said: not how much another pass has added, nor in which order.
 //!
 //! No call tries again, none waits, and none but [`Tally::open`] takes memory. Nothing here knows of packets, marks or
 //! blocks.

@@ -8,7 +8,9 @@ use atomic_table::Seat;
 /// A pass of a [`Tally`](crate::Tally). It may be handed to another thread.
 ///
 /// It knows its share of each word, which is what was added to the word through it and through the passes that were
-/// joined into it, and it knows what it has seen of each word. A pass that is dropped takes its budget with it.
+/// joined into it, and it knows what it has seen of each word: a read gives no less. It knows nothing of what others add,
+/// until they are joined into it. A pass that is dropped takes with it what it has left and has made. Where that was
+/// anything, no other pass of its tally can then have the whole budget.
 #[derive(Drop)]
 pub struct Pass {
     pub(crate) seat: Seat<(), View>,

@@ -44,8 +44,10 @@ impl Tally {
         ensures tally { IfOk result (λ r. (slots_of r.0 ≡ slots) × (budget_of r.0 ≡ budget)) }
         ensures own { IfOk result (λ r. IsOf r.0 r.1) }
         ensures counts { IfOk result (λ r. (left_of r.1 ≡ budget) × (made_of r.1 ≡ 0)) }
-        ensures shares { IfOk result (λ r. (s : ℕ) (c : Bool) (w : Word) → pass_share r.1 s c w ≡ 0) }
-        ensures seen { IfOk result (λ r. (s : ℕ) (c : Bool) (w : Word) → pass_seen r.1 s c w ≡ 0) }
+        ensures shares { IfOk result (λ r. (s : ℕ) (c : Bool) (w : Word)
+            → pass_share r.1 s c w ≡ 0) }
+        ensures seen { IfOk result (λ r. (s : ℕ) (c : Bool) (w : Word)
+            → pass_seen r.1 s c w ≡ 0) }
     {
         let count = slots as usize * WORDS_OF_SLOT;
         let zeros = Vec::from_elem(alloc, 0u64, count)?;
@@ -78,10 +80,8 @@ impl Tally {
         ensures given { (left_of result ≡ budget) × (made_of result ≡ 0) }
         ensures no_share { (s : ℕ) (c : Bool) (w : Word) → pass_share result s c w ≡ 0 }
         ensures told { pass_seens result ≡ pass_seens pass.old }
-        ensures enough_told {
-            (s : ℕ) (c : Bool) (w : Word)
-            → pass_share pass.old s c w ≤ pass_seen result s c w
-        }
+        ensures enough_told { (s : ℕ) (c : Bool) (w : Word)
+            → pass_share pass.old s c w ≤ pass_seen result s c w }
     {
         let seat = self.give::<Brand>(&mut pass.seat, budget);
         pass.left -= budget;
@@ -107,8 +107,8 @@ impl Tally {
     }
 
     /// Counts one packet with its offset in its block. The pass's shares of Count and Sum rise by 1 and by the offset,
-    /// and those of DelayCount and DelaySum too where the packet measures delay. No other share changes, and nothing that
-    /// the pass had seen falls.
+    /// and those of DelayCount and DelaySum too where the packet measures delay. No other share changes. What the pass
+    /// has seen of a word rises to its share where it is below, and never falls.
     pub fn add(&self, pass: &mut Pass, slot: u32, colour: bool, delay: bool, offset: u64)
         requires own { IsOf self.now pass.old }
         requires left { 1 ≤ left_of pass.old }
@@ -117,14 +117,12 @@ impl Tally {
         ensures own { IsOf self.now pass.new }
         ensures left { left_of pass.new + 1 ≡ left_of pass.old }
         ensures made { made_of pass.new ≡ made_of pass.old + 1 }
-        ensures shares {
-            (s : ℕ) (c : Bool) (w : Word)
-            → pass_share pass.new s c w ≡ pass_share pass.old s c w + gain slot colour delay offset s c w
-        }
-        ensures seen {
-            (s : ℕ) (c : Bool) (w : Word)
-            → pass_seen pass.new s c w ≡ max (pass_seen pass.old s c w) (pass_share pass.new s c w)
-        }
+        ensures shares { (s : ℕ) (c : Bool) (w : Word)
+            → pass_share pass.new s c w
+            ≡ pass_share pass.old s c w + gain slot colour delay offset s c w }
+        ensures seen { (s : ℕ) (c : Bool) (w : Word)
+            → pass_seen pass.new s c w
+            ≡ max (pass_seen pass.old s c w) (pass_share pass.new s c w) }
     {
         self.count(pass, place_of(slot, colour, Word::Count));
         self.raise(pass, place_of(slot, colour, Word::Sum), offset);
@@ -153,7 +151,8 @@ impl Tally {
     fn raise(&self, pass: &mut Pass, place: usize, more: u64)
         requires own { IsOf self.now pass.old }
         requires place { place < 8 * slots_of self.now }
-        requires room { share_at (view_of pass.old) place + more ≤ (view_of pass.old).made * MAX_OFFSET }
+        requires room { share_at (view_of pass.old) place + more
+            ≤ (view_of pass.old).made * MAX_OFFSET }
         ensures own { IsOf self.now pass.new }
         ensures view { view_of pass.new ≡ raised place more (view_of pass.old) }
     {
@@ -173,20 +172,16 @@ impl Tally {
         ensures own { IsOf self.now pass.new }
         ensures share { pass_share pass.old slot colour word ≤ result }
         ensures seen { pass_seen pass.old slot colour word ≤ result }
-        ensures exact {
-            made_of pass.old + left_of pass.old ≡ budget_of self.now
-            → result ≡ pass_share pass.old slot colour word
-        }
+        ensures exact { made_of pass.old + left_of pass.old ≡ budget_of self.now
+            → result ≡ pass_share pass.old slot colour word }
 
         // What is left of the pass as it was, and what was seen.
         ensures left { left_of pass.new ≡ left_of pass.old }
         ensures made { made_of pass.new ≡ made_of pass.old }
         ensures shares { pass_shares pass.new ≡ pass_shares pass.old }
-        ensures sees {
-            (s : ℕ) (c : Bool) (w : Word)
+        ensures sees { (s : ℕ) (c : Bool) (w : Word)
             → pass_seen pass.new s c w
-                ≡ (if same_place s c w slot colour word then result else pass_seen pass.old s c w)
-        }
+            ≡ (if same_place s c w slot colour word then result else pass_seen pass.old s c w) }
     {
         let place = place_of(slot, colour, word);
         self.table.shared.load::<Looking>(&mut pass.seat, place)
@@ -200,15 +195,12 @@ impl Tally {
         ensures own { IsOf self.now pass.new }
         ensures left { left_of pass.new ≡ left_of pass.old + left_of other }
         ensures made { made_of pass.new ≡ made_of pass.old + made_of other }
-        ensures shares {
-            (s : ℕ) (c : Bool) (w : Word)
-            → pass_share pass.new s c w ≡ pass_share pass.old s c w + pass_share other s c w
-        }
-        ensures seen {
-            (s : ℕ) (c : Bool) (w : Word)
+        ensures shares { (s : ℕ) (c : Bool) (w : Word)
+            → pass_share pass.new s c w ≡ pass_share pass.old s c w + pass_share other s c w }
+        ensures seen { (s : ℕ) (c : Bool) (w : Word)
             → pass_seen pass.new s c w
-                ≡ max (max (pass_seen pass.old s c w) (pass_seen other s c w)) (pass_share pass.new s c w)
-        }
+            ≡ max (max (pass_seen pass.old s c w) (pass_seen other s c w))
+            (pass_share pass.new s c w) }
     {
         let Pass { seat, left, made } = other;
         self.table.shared.join_seat::<Joining>(&mut pass.seat, seat);

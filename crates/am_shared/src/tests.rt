@@ -1,9 +1,10 @@
-ghost use Rattle.std.specs.Prelude.{◌≡◌, ◌+◌, ◌*◌, ◌≤◌, ◌<◌, ◌^◌};
+ghost use Rattle.std.specs.Prelude.{◌≡◌, ◌*◌, ◌≤◌, ◌<◌, IfOk};
 ghost use Rattle.std.specs.Thread.{IsSync};
 ghost use Rattle.am_shared.specs.Sharing.{CanAdd, HasAdded};
-ghost use Rattle.am_shared.specs.Passes.{slots_of, left_of, made_of, IsOf};
+ghost use Rattle.am_shared.specs.Passes.{slots_of, IsOf};
 
 use crate::{MAX_BUDGET, MAX_OFFSET, Pass, Tally, Word};
+use std::alloc::{AllocError, Global};
 use std::sync::Wait;
 use std::test::Fail;
 use std::thread;
@@ -80,7 +81,10 @@ fn the_last_word_and_the_greatest_numbers(rt: HostRuntime) -> Result<(), Fail> {
     tally.add(&mut pass, 1023, true, true, MAX_OFFSET);
     tally.add(&mut pass, 1023, true, true, MAX_OFFSET);
     let greatest = 2 * 4_398_046_511_103;
-    assert_eq!(rt; words(&tally, &mut pass, 1023, true), [2, greatest, 2, greatest]);
+    assert_eq!(rt;
+        words(&tally, &mut pass, 1023, true),
+        [2, greatest, 2, greatest]
+    );
     assert_eq!(rt; words(&tally, &mut pass, 1023, false), [0, 0, 0, 0]);
     assert_eq!(rt; words(&tally, &mut pass, 0, true), [0, 0, 0, 0]);
     Ok(())
@@ -98,12 +102,8 @@ fn a_tally_without_budget_is_read(rt: HostRuntime) -> Result<(), Fail> {
 
 // Adds so many packets, of which each has the offset 3 and every second one measures delay.
 fn add_many(tally: &Tally, mut pass: Pass, count: u64) -> Pass
-    requires own { IsOf tally.now pass }
-    requires slots { 1 ≤ slots_of tally.now }
-    requires enough { count ≤ left_of pass }
-    ensures own { IsOf tally.now result }
-    ensures left { left_of result + count ≡ left_of pass }
-    ensures made { made_of result ≡ made_of pass + count }
+    requires { CanAdd tally.now pass count }
+    ensures { HasAdded tally.now pass result count }
 {
     for number in 0..count {
         tally.add(&mut pass, 0, true, number % 2 == 0, 3);
@@ -113,12 +113,8 @@ fn add_many(tally: &Tally, mut pass: Pass, count: u64) -> Pass
 
 // Adds a thousand packets through each of so many passes, half of them in a thread of their own.
 fn add_by_halves<R: Threads + Sync>(rt: &R, tally: &Tally, mut pass: Pass, passes: u64) -> Pass
-    requires own { IsOf tally.now pass }
-    requires slots { 1 ≤ slots_of tally.now }
-    requires enough { 1000 * passes ≤ left_of pass }
-    ensures own { IsOf tally.now result }
-    ensures left { left_of result + 1000 * passes ≡ left_of pass }
-    ensures made { made_of result ≡ made_of pass + 1000 * passes }
+    requires { CanAdd tally.now pass (1000 * passes) }
+    ensures { HasAdded tally.now pass result (1000 * passes) }
 {
     if passes < 2 {
         return add_many(tally, pass, 1000 * passes);
@@ -141,12 +137,30 @@ fn add_by_halves<R: Threads + Sync>(rt: &R, tally: &Tally, mut pass: Pass, passe
     one
 }
 
+// What is counted by so many passes in threads of their own is read by the pass that all were joined into.
+fn counted_by_halves<R: Threads + Sync>(
+    rt: &R,
+    alloc: Global,
+    passes: u64,
+) -> Result<u64, AllocError>
+    requires { passes ≤ 64 }
+    ensures { IfOk result (λ count. count ≡ 1000 * passes) }
+{
+    let (tally, pass) = Tally::open(alloc, 1, 1000 * passes)?;
+    let mut pass = add_by_halves(rt, &tally, pass, passes);
+    Ok(tally.read(&mut pass, 0, true, Word::Count))
+}
+
 #[test]
 fn sixty_four_passes_in_threads_read_the_exact_sums(rt: HostRuntime) -> Result<(), Fail> {
     let (tally, pass) = Tally::open(rt.alloc(), 1, 64_000)?;
     let mut pass = add_by_halves(&rt, &tally, pass, 64);
-    assert_eq!(rt; words(&tally, &mut pass, 0, true), [64_000, 192_000, 32_000, 96_000]);
+    assert_eq!(rt;
+        words(&tally, &mut pass, 0, true),
+        [64_000, 192_000, 32_000, 96_000]
+    );
     assert_eq!(rt; (pass.left(), pass.made()), (0, 64_000));
+    assert_eq!(rt; counted_by_halves(&rt, rt.alloc(), 7)?, 7_000);
     Ok(())
 }
 
@@ -167,6 +181,9 @@ fn two_threads_of_a_scope_add_to_the_same_words(rt: HostRuntime) -> Result<(), F
     let one = tally.split(&mut pass, 1_000);
     let two = tally.split(&mut pass, 1_000);
     add_in_a_scope(&rt, &tally, one, two);
-    assert_eq!(rt; words(&tally, &mut pass, 0, true), [2_000, 6_000, 1_000, 3_000]);
+    assert_eq!(rt;
+        words(&tally, &mut pass, 0, true),
+        [2_000, 6_000, 1_000, 3_000]
+    );
     Ok(())
 }

@@ -1,5 +1,5 @@
 -- the first step of an add keeps the rule, and its pass stays what a pass is
-use Rattle.std.proofs.Common.{rules, ap, ◌∙◌, sym, subst, arith, ◌+◌, ◌-◌, ◌<◌, ◌≤◌, length, ◌≡◌}
+use Rattle.std.proofs.Common.{ap, ◌∙◌, sym, subst, arith, ◌+◌, ◌-◌, length}
 use Rattle.am_shared.specs.Rule.{IsConsistent}
 use Rattle.am_shared.specs.Steps.{Sat}
 use Rattle.am_shared.proofs.Keeping.{counts, counted-sound}

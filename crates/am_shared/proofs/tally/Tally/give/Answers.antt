@@ -1,5 +1,5 @@
 -- a pass may give what it has left
-use Rattle.std.proofs.Common.{arith, ◌≤◌, ◌<◌}
+use Rattle.std.proofs.Common.{arith}
 use Rattle.am_shared.proofs.Keeping.{gives}
 use Rattle.am_shared.proofs.tally.Tally.give.Goals as goal
 

@@ -1,5 +1,5 @@
 -- a join keeps the rule, and the pass stays what a pass is
-use Rattle.std.proofs.Common.{rules, ap, ◌∙◌, sym, subst, arith, ℕ, max, ◌+◌, ◌<◌, ◌≤◌, length, ◌≡◌}
+use Rattle.std.proofs.Common.{ap, ◌∙◌, sym, subst, arith, ℕ, max, ◌+◌, ◌≤◌, length, ◌≡◌}
 use Rattle.am_shared.specs.declared.rule.View.{View}
 use Rattle.am_shared.specs.declared.tally.TheConstants.{MAX_BUDGET}
 use Rattle.am_shared.specs.Places.{word_number}
@@ -12,9 +12,13 @@ use Rattle.am_shared.proofs.tally.Tally.join.Goals as goal
 pub join_seat-requires : goal.join_seat-requires
 join_seat-requires c =
     let wide = c.args.self.now.wide in
-    let some = c.args.self.now.some in
-    (c.requires.own.seated, c.requires.other.seated, no-slot c.args.other.seat.me.1 c.args.other.no_slot, omega arith,
-      joins _ _ _ _ _ c.requires.own.carries)
+    let some = c.args.self.now.some in (
+      c.requires.own.seated,
+      c.requires.other.seated,
+      no-slot c.args.other.seat.me.1 c.args.other.no_slot,
+      omega arith,
+      joins _ _ _ _ _ c.requires.own.carries,
+    )
 
 pub load-requires : goal.load-requires
 load-requires c =

@@ -1,6 +1,5 @@
 -- a read keeps the rule, and its pass stays what a pass is
-use Rattle.std.proofs.Common.{rules, ap, ◌∙◌, sym, subst, arith, ◌+◌, ◌*◌, ◌<◌, ◌≤◌, length, ◌≡◌}
-use Rattle.am_shared.specs.Places.{word_number, word_index, colour_index}
+use Rattle.std.proofs.Common.{ap, ◌∙◌, sym, subst, arith, length}
 use Rattle.am_shared.specs.Rule.{IsConsistent}
 use Rattle.am_shared.specs.Steps.{Sat}
 use Rattle.am_shared.proofs.Keeping.{looks, looked-sound}
@@ -29,4 +28,4 @@ invariant_of-pass c =
 pub returns-clause-sees : goal.returns-clause-sees
 returns-clause-sees c =
     sees-named c.args.pass.now.seat.me.0 c.load.new.seat.me.0 c.args.slot c.args.colour c.args.word c.place_of-place.result c.load.result
-      c.place_of-place.ensures (ap (λ (m : Sat). m.0) c.load.ensures.2.0)
+    c.place_of-place.ensures (ap (λ (m : Sat). m.0) c.load.ensures.2.0)
