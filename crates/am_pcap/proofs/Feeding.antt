@@ -4,7 +4,7 @@ use Rattle.std.proofs.lemmas.List.{length-append, length-take, length-drop, appe
 use Rattle.std.proofs.lemmas.Bool.{cases_lt}
 use Rattle.std.proofs.Math.Seq.{take-add}
 use Rattle.am_pcap.specs.Packets.{word, Packet, IsWhole, first_packet, most_captured}
-use Rattle.am_pcap.specs.Heads.{judged}
+use Rattle.am_pcap.specs.Heads.{IsHead, IsRefusedHead}
 use Rattle.am_pcap.specs.Captures.{Summary, HasSummary, IsSplit, IsTooLong, IsRecordError}
 use Rattle.am_pcap.specs.Decoded.{Decoded, IsLast, StandsFor, Took, Refused, shown, waiting_packet}
 use Rattle.am_pcap.specs.declared.refusal.CapError.{CapError}
@@ -46,7 +46,7 @@ shows-is d bytes ps head count unfinished taken error s h =
 pub took-head :
     (old new : Decoded) (piece : List ℕ) (n : ℕ) (h : Head) → n ≤ length piece
     → old.summary.head ≡ None → old.summary.error ≡ None
-    → length (old.summary.unfinished ++ take n piece) ≡ 24 → judged (old.summary.unfinished ++ take n piece) ≡ Ok h
+    → length (old.summary.unfinished ++ take n piece) ≡ 24 → IsHead h (old.summary.unfinished ++ take n piece)
     → Shows new (Some h) old.summary.count [] (old.summary.taken + n) None → new.waiting ≡ None
     → Took old new piece n
 took-head old new piece n h within head error long good shows waiting = record {
@@ -68,7 +68,7 @@ took-head old new piece n h within head error long good shows waiting = record {
 pub took-bad_head :
     (old new : Decoded) (piece : List ℕ) (n : ℕ) (e : CapError) → n ≤ length piece
     → old.summary.head ≡ None → old.summary.error ≡ None
-    → length (old.summary.unfinished ++ take n piece) ≡ 24 → judged (old.summary.unfinished ++ take n piece) ≡ Err e
+    → length (old.summary.unfinished ++ take n piece) ≡ 24 → IsRefusedHead e (old.summary.unfinished ++ take n piece)
     → Shows new None old.summary.count (old.summary.unfinished ++ take n piece) (old.summary.taken + n) (Some e) → new.waiting ≡ None
     → Took old new piece n
 took-bad_head old new piece n e within head error long bad shows waiting = record {
@@ -184,7 +184,7 @@ whole-is big front more w head is few long =
 pub shown-head :
     (b : List ℕ) (head : Option Head) (error : Option CapError) (count taken : ℕ) (full waiting : Bool) (piece : List ℕ) (n : ℕ) (h : Head) (after : List ℕ)
     → head ≡ None → error ≡ None → full ≡ false → (waiting ≡ true → full ≡ true) → n ≤ length piece
-    → length (b ++ take n piece) ≡ 24 → judged (b ++ take n piece) ≡ Ok h → after ≡ []
+    → length (b ++ take n piece) ≡ 24 → IsHead h (b ++ take n piece) → after ≡ []
     → Took (shown b head error count taken full waiting) (shown after (Some h) error count (taken + n) full waiting) piece n
 shown-head b (Some k) error count taken full waiting piece n h after e1 e2 e3 e4 within long good none = absurd (cc (e1))
 shown-head b None (Some e) count taken full waiting piece n h after e1 e2 e3 e4 within long good none = absurd (cc (e2))
@@ -197,7 +197,7 @@ shown-head b None None count taken false false piece n h after e1 e2 e3 e4 withi
 pub shown-bad_head :
     (b : List ℕ) (head : Option Head) (error : Option CapError) (count taken : ℕ) (full waiting : Bool) (piece : List ℕ) (n : ℕ) (e : CapError) (after : List ℕ)
     → head ≡ None → error ≡ None → full ≡ false → n ≤ length piece
-    → length (b ++ take n piece) ≡ 24 → judged (b ++ take n piece) ≡ Err e → after ≡ b ++ take n piece
+    → length (b ++ take n piece) ≡ 24 → IsRefusedHead e (b ++ take n piece) → after ≡ b ++ take n piece
     → Refused (shown b head error count taken full waiting) (shown after head (Some e) count (taken + n) full waiting) piece e
 shown-bad_head b (Some k) error count taken full waiting piece n e after e1 e2 e3 within long bad is = absurd (cc (e1))
 shown-bad_head b None (Some d) count taken full waiting piece n e after e1 e2 e3 within long bad is = absurd (cc (e2))

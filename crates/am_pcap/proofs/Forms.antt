@@ -2,7 +2,7 @@
 use Rattle.std.proofs.Common.{refl, sym, ap, subst, ◌∙◌, ◌≡◌, ℕ, Bool, true, false, List, [], ◌∷◌, Ok, cond, get_or}
 use Rattle.std.specs.Int.{w32, to_be_bytes, to_le_bytes}
 use Rattle.am_pcap.specs.Packets.{word}
-use Rattle.am_pcap.specs.Heads.{half, judged, form_of, magic_of, link_number}
+use Rattle.am_pcap.specs.Heads.{half, IsHead, magic_of, link_number}
 use Rattle.am_pcap.specs.declared.record.Form.{Form}
 use Rattle.am_pcap.specs.declared.frame.LinkKind.{LinkKind}
 use Rattle.am_pcap.specs.declared.frame.LinkKind.TheVariants.{Ethernet, RawIp, RawIp6}
@@ -20,31 +20,26 @@ laid_out false m s k =
     get_or m 0 0 ∷ get_or m 1 0 ∷ get_or m 2 0 ∷ get_or m 3 0 ∷ 2 ∷ 0 ∷ 4 ∷ 0 ∷ 0 ∷ 0 ∷ 0 ∷ 0 ∷ 0 ∷ 0 ∷ 0 ∷ 0
     ∷ get_or s 0 0 ∷ get_or s 1 0 ∷ get_or s 2 0 ∷ get_or s 3 0 ∷ get_or k 0 0 ∷ get_or k 1 0 ∷ get_or k 2 0 ∷ get_or k 3 0 ∷ []
 
-of-literals :
-    (big nano : Bool) (link : LinkKind)
-    → judged (laid_out big (bytes_of big (magic_of nano)) (bytes_of big 262144) (bytes_of big (link_number link)))
-    ≡ Ok (record {
-      raw = laid_out big (bytes_of big (magic_of nano)) (bytes_of big 262144) (bytes_of big (link_number link));
-      form = record { big = big; nano = nano };
-      link = link;
-    })
-unfolding judged form_of word half
-of-literals true true Ethernet = refl
-of-literals true true RawIp = refl
-of-literals true true RawIp6 = refl
-of-literals true false Ethernet = refl
-of-literals true false RawIp = refl
-of-literals true false RawIp6 = refl
-of-literals false true Ethernet = refl
-of-literals false true RawIp = refl
-of-literals false true RawIp6 = refl
-of-literals false false Ethernet = refl
-of-literals false false RawIp = refl
-of-literals false false RawIp6 = refl
-
 -- the header is read back
 abbrev pub IsReadBack : Form → LinkKind → List ℕ → Type 0
-IsReadBack form link raw = judged raw ≡ Ok (record { raw = raw; form = form; link = link })
+IsReadBack form link raw = IsHead (record { raw = raw; form = form; link = link }) raw
+
+of-literals :
+    (big nano : Bool) (link : LinkKind)
+    → IsReadBack (record { big = big; nano = nano }) link (laid_out big (bytes_of big (magic_of nano)) (bytes_of big 262144) (bytes_of big (link_number link)))
+unfolding word half
+of-literals true true Ethernet = record { magic = refl; version = (refl, refl); link = refl; raw = refl }
+of-literals true true RawIp = record { magic = refl; version = (refl, refl); link = refl; raw = refl }
+of-literals true true RawIp6 = record { magic = refl; version = (refl, refl); link = refl; raw = refl }
+of-literals true false Ethernet = record { magic = refl; version = (refl, refl); link = refl; raw = refl }
+of-literals true false RawIp = record { magic = refl; version = (refl, refl); link = refl; raw = refl }
+of-literals true false RawIp6 = record { magic = refl; version = (refl, refl); link = refl; raw = refl }
+of-literals false true Ethernet = record { magic = refl; version = (refl, refl); link = refl; raw = refl }
+of-literals false true RawIp = record { magic = refl; version = (refl, refl); link = refl; raw = refl }
+of-literals false true RawIp6 = record { magic = refl; version = (refl, refl); link = refl; raw = refl }
+of-literals false false Ethernet = record { magic = refl; version = (refl, refl); link = refl; raw = refl }
+of-literals false false RawIp = record { magic = refl; version = (refl, refl); link = refl; raw = refl }
+of-literals false false RawIp6 = record { magic = refl; version = (refl, refl); link = refl; raw = refl }
 
 pub read_back :
     (form : Form) (link : LinkKind) (big : Bool) (a b c : ℕ) (m s k : List ℕ) → form.big ≡ big

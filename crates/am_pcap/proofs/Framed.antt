@@ -1,5 +1,5 @@
 -- A record's bytes hold one frame.
-use Rattle.std.proofs.Common.{arith, refl, sym, ap, subst, ◌∙◌, ◌≡◌, ℕ, ◌+◌, ◌<◌, ◌≤◌, Bool, List, length, inl, inr}
+use Rattle.std.proofs.Common.{arith, sym, subst, ◌∙◌, ◌≡◌, ℕ, Bool, List, inl, inr}
 use Rattle.am_pcap.specs.Frames.{IsFramed, IsTypePlace, TypeSays, VersionSays}
 use Rattle.am_pcap.specs.declared.frame.Frame.{Frame}
 use Rattle.am_pcap.specs.declared.frame.LinkKind.{LinkKind}

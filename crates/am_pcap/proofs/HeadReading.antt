@@ -1,13 +1,15 @@
 -- How a capture comes to its file header, step by step.
 use Rattle.std.proofs.Common.{arith, refl, sym, ap, subst, ◌∙◌, ◌≡◌, ℕ, ◌+◌, ◌<◌, ◌≤◌, Bool, List, [], ◌∷◌, ◌++◌, length, take, drop, Option, Some, None, append_assoc, inl, inr}
-use Rattle.std.proofs.lemmas.List.{length-append, append-nil, take-append-drop, length-drop, length-take}
+use Rattle.std.proofs.lemmas.List.{length-append, append-nil, take-append-drop, take-append-le, length-drop, length-take}
 use Rattle.std.proofs.lemmas.Bool.{cases_lt}
 use Rattle.std.specs.Prelude.{IsSome, min}
 use Rattle.am_base.specs.Shelves.{Told, Takes, Opens}
 use Rattle.am_pcap.specs.Packets.{Packet, IsWhole, HoldsPackets}
-use Rattle.am_pcap.specs.Captures.{Summary, HasSummary, IsRefusedAfter}
+use Rattle.am_pcap.specs.Heads.{IsHead, IsRefusedHead}
+use Rattle.am_pcap.specs.Captures.{Summary, HasSummary, IsTooLong}
 use Rattle.am_pcap.specs.Decoded.{Decoded, Took, Refused, Counts, nothing_taken}
-use Rattle.am_pcap.specs.Readings.{AreRefused, most_read, Opened, RefusesOpen, WhyNotOpened}
+use Rattle.am_pcap.specs.Readings.{IsCut, most_read}
+use Rattle.am_pcap.specs.CaptureFiles.{ReadsOn, RefusesOpen, IsRefusedHeader, WhyNotOpened}
 use Rattle.am_pcap.specs.Seeking.{Holds, HeadUnread, HeadFed, HeadBad, HeadFound, HeadGrown, HeadFault, HeadRefused, HeadFails, waiting_packets, reading_of}
 use Rattle.am_pcap.specs.declared.refusal.CapError.{CapError}
 use Rattle.am_pcap.specs.declared.head.Head.{Head}
@@ -15,9 +17,10 @@ use Rattle.am_pcap.specs.declared.capture.FileError.{FileError}
 use Rattle.am_pcap.specs.declared.capture.FileError.TheVariants.{Missing, ReadFault, TooLong, Bad, Memory}
 use Rattle.am_pcap.proofs.Steps.{take-whole, drop-whole, summary-none}
 use Rattle.am_pcap.proofs.Feeding.{front_length}
-use Rattle.am_pcap.proofs.Refusals.{took-holds, refused-holds, refused-after, not-cut}
+use Rattle.am_pcap.proofs.Refusals.{took-holds, refused-holds, not-cut}
 use Rattle.am_pcap.proofs.SeekSteps.{holds-given}
 use Rattle.am_pcap.proofs.Shelved.{takes-none, takes-join, part-none, part-more}
+use Rattle.am_pcap.proofs.ReadFiles.{reads-on, on-part}
 
 no-records : (big : Bool) (bytes : List ℕ) (ps : List Packet) (rest : List ℕ) → length bytes < 16 → HoldsPackets big bytes ps rest → ps ≡ []
 no-records big bytes [] rest few h = refl
@@ -97,27 +100,49 @@ head-fed d d' held missing k n some none left is took counts clean all =
       };
     }
 
+bad-parts :
+    (bytes : List ℕ) (head : Option Head) (count : ℕ) (u : List ℕ) (taken : ℕ) (error : Option CapError) (e : CapError) (rest : List ℕ)
+    → HasSummary bytes [] (record { head = head; count = count; unfinished = u; taken = taken; error = error }) → error ≡ Some e
+    → length bytes ≤ 24 → IsRefusedHeader (bytes ++ rest) e
+bad-parts bytes None count u taken None e rest s is few = absurd (cc (is))
+bad-parts bytes None count u taken (Some d) e rest s is few =
+    let a : take 24 (bytes ++ rest) ≡ take 24 bytes = take-append-le 24 bytes rest s.split.whole in
+    let same : d ≡ e = cc (is) in
+    inl (omega (arith, s.split.whole, length-append bytes rest), subst (λ x. IsRefusedHead x (take 24 (bytes ++ rest))) same (subst (λ x. IsRefusedHead d x) (sym a) s.split.bad))
+bad-parts bytes (Some h) count u taken None e rest s is few = absurd (cc (is))
+bad-parts bytes (Some h) count u taken (Some d) e rest s is few =
+    let long : IsTooLong h.form.big u = s.split.refused.0 in
+    absurd (omega (arith, long.head, length-drop 24 bytes, ap length s.split.records, few))
+
+-- of 24 bytes and no record only the file header can be refused, and it is, whatever bytes follow
+bad-header :
+    (bytes : List ℕ) (s : Summary) (e : CapError) (rest : List ℕ) → HasSummary bytes [] s → s.error ≡ Some e → length bytes ≤ 24
+    → IsRefusedHeader (bytes ++ rest) e
+bad-header bytes s e rest h is few = bad-parts bytes s.head s.count s.unfinished s.taken s.error e rest h is few
+
 -- the decoder refused the file header
 pub head-bad :
-    (d d' : Decoded) (held : List ℕ) (k : ℕ) (e : CapError) (some : (bytes : List ℕ) × HasSummary bytes [] d.summary)
-    → d.waiting ≡ None → Refused d d' (take k held) e → HeadBad d held e
-head-bad d d' held k e some none r =
+    (d d' : Decoded) (held : List ℕ) (missing k : ℕ) (e : CapError) (some : (bytes : List ℕ) × HasSummary bytes [] d.summary)
+    → d.waiting ≡ None → d.summary.taken + missing ≡ 24 → k ≡ min missing (length held)
+    → Refused d d' (take k held) e → HeadBad d held e
+head-bad d d' held missing k e some none left is r =
     let grown : (bytes : List ℕ) → HasSummary bytes [] d.summary → HasSummary (bytes ++ take r.n (take k held)) [] d'.summary =
     λ bytes h. refused-holds d d' (take k held) e r none bytes [] h in
+    let most : r.n ≤ missing = omega (arith, r.took.within, front_length k held (omega (arith, is)), is) in
     record {
       not_cut = not-cut (some.0 ++ take r.n (take k held)) [] d'.summary e (grown some.0 some.1) r.kept;
-      refused = λ bytes h rest cut.
-          let front : List ℕ = take r.n (take k held) in
-          let mid : List ℕ = drop r.n (take k held) in
-          let a : IsRefusedAfter e ((bytes ++ take r.n (take k held)) ++ (drop r.n (take k held) ++ (drop k held ++ rest))) [] =
-          refused-after (bytes ++ take r.n (take k held)) [] d'.summary e (grown bytes h) r.kept (drop r.n (take k held) ++ (drop k held ++ rest)) in
-          let is : (bytes ++ take r.n (take k held)) ++ (drop r.n (take k held) ++ (drop k held ++ rest)) ≡ (bytes ++ held) ++ rest =
+      refused = λ bytes rest h.
+          let few : length (bytes ++ take r.n (take k held)) ≤ 24 =
+          omega (arith, length-append bytes (take r.n (take k held)), length-take r.n (take k held), h.taken, left, most) in
+          let a : IsRefusedHeader ((bytes ++ take r.n (take k held)) ++ (drop r.n (take k held) ++ (drop k held ++ rest))) e =
+          bad-header (bytes ++ take r.n (take k held)) d'.summary e (drop r.n (take k held) ++ (drop k held ++ rest)) (grown bytes h) r.kept few in
+          let all : (bytes ++ take r.n (take k held)) ++ (drop r.n (take k held) ++ (drop k held ++ rest)) ≡ (bytes ++ held) ++ rest =
           append_assoc bytes (take r.n (take k held)) (drop r.n (take k held) ++ (drop k held ++ rest))
           ∙ ap (λ x. bytes ++ x) (sym (append_assoc (take r.n (take k held)) (drop r.n (take k held)) (drop k held ++ rest))
           ∙ ap (λ x. x ++ (drop k held ++ rest)) (take-append-drop r.n (take k held))
           ∙ sym (append_assoc (take k held) (drop k held) rest) ∙ ap (λ x. x ++ rest) (take-append-drop k held))
           ∙ sym (append_assoc bytes held rest) in
-          subst (λ x. IsRefusedAfter e x []) is a;
+          subst (λ x. IsRefusedHeader x e) all a;
     }
 
 -- what was read of the file header is refused
@@ -128,7 +153,8 @@ head-refused d held read before after more e u bad took small = record {
   more = more;
   took = took;
   at_end = λ cut. absurd (bad.not_cut cut);
-  refused = λ bytes h. (bad.refused bytes h, omega (arith, h.taken, u.all, u.few, small, length-append bytes more));
+  refused = λ bytes rest h cut. bad.refused bytes rest h;
+  short = λ bytes h. omega (arith, h.taken, u.all, u.few, small, length-append bytes more);
 }
 
 -- nothing was read yet
@@ -177,9 +203,9 @@ refused-join d d' held' read' a b c e p q = record {
   more = p.more ++ q.more;
   took = takes-join a b c p.more q.more p.took q.took;
   at_end = q.at_end;
-  refused = λ bytes h.
-      let w = q.refused (bytes ++ p.more) (p.moves bytes h) in
-      (subst (λ x. AreRefused e x []) (append_assoc bytes p.more q.more) w.0, subst (λ x. length x ≤ most_read) (append_assoc bytes p.more q.more) w.1);
+  refused = λ bytes rest h cut.
+      subst (λ x. IsRefusedHeader (x ++ rest) e) (append_assoc bytes p.more q.more) (q.refused (bytes ++ p.more) rest (p.moves bytes h) cut);
+  short = λ bytes h. subst (λ x. length x ≤ most_read) (append_assoc bytes p.more q.more) (q.short (bytes ++ p.more) (p.moves bytes h));
 }
 
 pub fails-join :
@@ -198,15 +224,12 @@ new-summary d is = subst (λ x. HasSummary [] [] x.summary) (sym is) summary-non
 -- a file that was opened, whose header was read
 pub head-opened :
     (d d' : Decoded) (held' : List ℕ) (read' : ℕ) (before mid after : Option Told) (name : List ℕ) (h : Head)
-    → d ≡ nothing_taken → Opens before mid name → HeadFound d d' held' read' mid after h → Opened (reading_of d' held' read') before after name
-head-opened d d' held' read' before mid after name h is opens f = record {
-  goes_on = refl;
-  count = f.count;
-  short = f.order.short;
-  bytes = f.more;
-  part = part-more before mid after name [] f.more (part-none before mid name opens) f.took;
-  given = holds-given d' held' read' f.more [] f.order (f.moves [] (new-summary d is));
-}
+    → d ≡ nothing_taken → Opens before mid name → HeadFound d d' held' read' mid after h
+    → (k : Head) × (d'.summary.head ≡ Some k) × ReadsOn before after name (reading_of d' held' read') k []
+head-opened d d' held' read' before mid after name h is opens f =
+    let part = part-more before mid after name [] f.more (part-none before mid name opens) f.took in
+    let given = holds-given d' held' read' f.more [] f.order (f.moves [] (new-summary d is)) in
+    (h, f.head, reads-on before after name f.more (reading_of d' held' read') h [] part given refl f.head f.order.short)
 
 -- a file that was opened, whose header can't be had
 pub head-not_opened :
@@ -220,13 +243,16 @@ head-not_opened d before mid after name ReadFault is opens f = inr (record {
 })
 head-not_opened d before mid after name TooLong is opens f = f
 head-not_opened d before mid after name (Bad e) is opens f =
-    let w = f.refused [] (new-summary d is) in
+    let part = part-more before mid after name [] f.more (part-none before mid name opens) f.took in
+    let bad : (rest : List ℕ) → (IsCut e → rest ≡ []) → IsRefusedHeader (f.more ++ rest) e =
+    λ rest cut. f.refused [] rest (new-summary d is) cut in
     let r : RefusesOpen before after name e = record {
       bytes = f.more;
-      part = part-more before mid after name [] f.more (part-none before mid name opens) f.took;
+      part = part;
       at_end = f.at_end;
-      refused = w.0;
-      short = w.1;
+      refused = bad;
+      short = f.short [] (new-summary d is);
+      file = on-part (λ x. IsRefusedHeader x e) before after name f.more part (λ rest end. bad rest (λ cut. end (f.at_end cut)));
     } in
     r
-head-not_opened d before mid after name Memory is opens f = tt
+head-not_opened d before mid after name Memory is opens f = absurd f

@@ -5,9 +5,12 @@ pub mod Feeding
 pub mod Verdicts
 pub mod Spelled
 pub mod Forms
-pub mod Told
+pub mod Judged
 pub mod Refusals
 pub mod Shelved
 pub mod SeekSteps
+pub mod ReadFiles
+pub mod Gives
 pub mod HeadReading
 pub mod Framed
+pub mod OneFile

@@ -3,7 +3,7 @@ use Rattle.std.proofs.Common.{arith, refl, sym, ap, subst, ◌∙◌, ◌≡◌,
 use Rattle.std.proofs.lemmas.List.{length-append, take-append-le, drop-append-le, append-nil}
 use Rattle.std.specs.Prelude.{IsSome}
 use Rattle.am_pcap.specs.Packets.{word, Packet, IsWhole, HoldsPackets}
-use Rattle.am_pcap.specs.Heads.{judged, IsJudged}
+use Rattle.am_pcap.specs.Heads.{IsHead, IsRefusedHead}
 use Rattle.am_pcap.specs.Captures.{Summary, HasSummary, IsCapture, IsTooLong, IsRefused, IsRefusedAfter, HasBadRecord, verdict, unless_cut, unless_refused}
 use Rattle.am_pcap.specs.Decoded.{Decoded, StandsFor, IsLast, Took, Refused, Counts}
 use Rattle.am_pcap.specs.Readings.{IsCut}
@@ -14,7 +14,6 @@ use Rattle.am_pcap.specs.declared.head.Head.{Head}
 use Rattle.am_pcap.proofs.Splitting.{word-append, packets-append}
 use Rattle.am_pcap.proofs.Summaries.{summaries-grow, summary-exists}
 use Rattle.am_pcap.proofs.Verdicts.{verdict-exact, verdict-unique}
-use Rattle.am_pcap.proofs.Told.{judged-told}
 
 -- two lists that are one have one last packet
 last-one : (xs ys : List Packet) (x y : Packet) → xs ++ x ∷ [] ≡ ys ++ y ∷ [] → x ≡ y
@@ -73,7 +72,7 @@ after-parts :
     → IsRefusedAfter e (bytes ++ rest) ps
 after-parts bytes ps None count u taken e rest s =
     let a : take 24 (bytes ++ rest) ≡ take 24 bytes = take-append-le 24 bytes rest s.split.whole in
-    inr (inl (omega (arith, s.split.whole, length-append bytes rest), ap judged a ∙ s.split.bad, s.split.none))
+    inr (inl (omega (arith, s.split.whole, length-append bytes rest), subst (λ x. IsRefusedHead e x) (sym a) s.split.bad, s.split.none))
 after-parts bytes ps (Some h) count u taken e rest s =
     let a : take 24 (bytes ++ rest) ≡ take 24 bytes = take-append-le 24 bytes rest s.split.whole in
     let b : drop 24 (bytes ++ rest) ≡ drop 24 bytes ++ rest = drop-append-le 24 bytes rest s.split.whole in
@@ -82,7 +81,7 @@ after-parts bytes ps (Some h) count u taken e rest s =
     let bad : HasBadRecord (bytes ++ rest) e = record {
       whole = omega (arith, s.split.whole, length-append bytes rest);
       h = h;
-      head = ap judged a ∙ s.split.head;
+      head = subst (λ x. IsHead h x) (sym a) s.split.head;
       packets = ps;
       rest = u ++ rest;
       records = subst (λ x. HoldsPackets h.form.big x ps (u ++ rest)) (sym b) (packets-append h.form.big (drop 24 bytes) ps u rest s.split.records);
@@ -105,8 +104,8 @@ pub refused-after :
 refused-after bytes ps s e h is rest =
     after-parts bytes ps s.head s.count s.unfinished s.taken e rest (with-error bytes ps s (Some e) is h)
 
-head-not-cut : (bytes : List ℕ) (e : CapError) → judged bytes ≡ Err e → IsCut e → ⊥
-head-not-cut bytes (CutFile number) is cut = subst (λ r. IsJudged r bytes) is (judged-told bytes)
+head-not-cut : (bytes : List ℕ) (e : CapError) → IsRefusedHead e bytes → IsCut e → ⊥
+head-not-cut bytes (CutFile number) is cut = is
 head-not-cut bytes _ is cut = cut
 
 not-cut-parts :

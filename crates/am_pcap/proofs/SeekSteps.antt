@@ -1,17 +1,16 @@
 -- How a capture comes to its next record, step by step.
-use Rattle.std.proofs.Common.{arith, refl, sym, ap, subst, ◌∙◌, ◌≡◌, ℕ, ◌+◌, ◌<◌, ◌≤◌, Bool, true, false, List, [], ◌∷◌, ◌++◌, length, take, drop, Option, Some, None, Ok, Err, append_assoc, inl, inr, ◌^◌}
+use Rattle.std.proofs.Common.{arith, refl, sym, ap, subst, ◌∙◌, ◌≡◌, ℕ, ◌+◌, ◌<◌, ◌≤◌, true, false, List, [], ◌∷◌, ◌++◌, length, take, drop, Option, Some, None, Ok, Err, append_assoc, inl, inr}
 use Rattle.std.proofs.lemmas.List.{length-append, append-nil, take-append-drop, length-drop}
 use Rattle.std.proofs.lemmas.Bool.{cases_lt}
-use Rattle.std.specs.Prelude.{IsSome, IfSome, IfNone, MatchOption}
+use Rattle.std.specs.Prelude.{IsSome}
 use Rattle.am_base.specs.Shelves.{Told, Takes, IsAtEnd}
 use Rattle.am_pcap.specs.Packets.{Packet}
 use Rattle.am_pcap.specs.Captures.{HasSummary, IsCapture, IsRefusedAfter, verdict}
-use Rattle.am_pcap.specs.Decoded.{Decoded, Took, Refused, Counts, after_take}
-use Rattle.am_pcap.specs.Shown.{packet_shown}
-use Rattle.am_pcap.specs.Readings.{Reading, HasGiven, GivesRecord, GivesEnd, GivesFault, GivesTooLong, GivesRefusal, GivesError, AreRefused, most_read}
+use Rattle.am_pcap.specs.Decoded.{Decoded, Took, Refused, Counts}
+use Rattle.am_pcap.specs.Readings.{HasGiven, AreRefused, most_read}
+use Rattle.am_pcap.specs.Answers.{GivesEnd, GivesFault, GivesTooLong, GivesRefusal, GivesError}
 use Rattle.am_pcap.specs.Seeking.{InOrder, Holds, Drains, DrainsTo, RefillFails, Continued, Found, reading_of, waiting_packets}
 use Rattle.am_pcap.specs.declared.refusal.CapError.{CapError}
-use Rattle.am_pcap.specs.declared.record.Record.{Record}
 use Rattle.am_pcap.specs.declared.capture.FileError.{FileError}
 use Rattle.am_pcap.specs.declared.capture.FileError.TheVariants.{Missing, ReadFault, TooLong, Bad, Memory}
 use Rattle.am_pcap.proofs.Refusals.{took-holds, refused-holds, refused-after, not-cut, ends-after, IsVerdictAfter}
@@ -332,49 +331,3 @@ error-join d held read d' held' read' a b c ReadFault p q = fault-join d held re
 error-join d held read d' held' read' a b c TooLong p q = long-join d held read d' held' read' a b c p q
 error-join d held read d' held' read' a b c (Bad e) p q = refusal-join d held read d' held' read' a b c e p q
 error-join d held read d' held' read' a b c Memory p q = q
-
--- what an answer with a record, or without one, says
-pub record Gave (old : Reading) (before after : Option Told) (n : Reading) (r : Option Record) : Type 0 where
-  pub given : IfSome r (λ x. GivesRecord old n before after x)
-  pub number : IfSome r (λ x. x.number ≡ old.decoded.summary.count + 1)
-  pub few : IfSome r (λ x. x.number ≤ 2 ^ 36)
-  pub ended : IfNone r (GivesEnd old before after)
-
-pub gave :
-    (old : Reading) (d : Decoded) (held : List ℕ) (read : ℕ) (over : Bool) (d' : Decoded) (held' : List ℕ) (read' : ℕ) (before after : Option Told) (n : Decoded) (r : Option Record)
-    → record { decoded = d; held = held; read = read; over = over } ≡ old → old.over ≡ false
-    → Found d held read d' held' read' before after → n ≡ after_take d'
-    → MatchOption r (d'.waiting ≡ None) (λ x. (d'.waiting ≡ Some (packet_shown x)) × (x.number ≡ d'.summary.count))
-    → Gave old before after (record { decoded = n; held = held'; read = read'; over = over }) r
-gave old d held read over d' held' read' before after n None view going f is taken = absurd (cc (f.waits, taken))
-gave old d held read over d' held' read' before after n (Some x) view going f is taken =
-    let summary : n.summary ≡ d'.summary = ap (λ y. y.summary) is in
-    let old_summary : d.summary ≡ old.decoded.summary = ap (λ y. y.decoded.summary) view in
-    let same : f.packet ≡ packet_shown x = cc (f.waits, taken.0) in
-    let count : n.summary.count ≡ old.decoded.summary.count + 1 = ap (λ y. y.count) summary ∙ f.count ∙ ap (λ y. y.count + 1) old_summary in
-    let number : x.number ≡ old.decoded.summary.count + 1 = taken.1 ∙ sym (ap (λ y. y.count) summary) ∙ count in
-    record {
-      given = record {
-        goes_on = ap (λ y. y.over) view ∙ going;
-        head = ap (λ y. y.head) summary ∙ f.head ∙ ap (λ y. y.head) old_summary;
-        count = count;
-        short = f.short;
-        more = f.more;
-        took = f.took;
-        given = λ bytes ps g.
-            let here = subst (λ y. HasGiven y bytes ps) (sym view) g in
-            let h : Holds d held bytes ps = record { taken = here.taken; split = here.split; summary = here.summary } in
-            let m : Holds d' held' (bytes ++ f.more) (ps ++ packet_shown x ∷ []) =
-            subst (λ y. Holds d' held' (bytes ++ f.more) (ps ++ y ∷ [])) same (f.moves bytes ps h) in
-            record {
-              taken = m.taken;
-              split = m.split;
-              summary = subst (λ y. HasSummary m.taken (ps ++ packet_shown x ∷ []) y) (sym summary) m.summary;
-              none_waits = ap (λ y. y.waiting) is;
-              read = omega (arith, f.all, m.summary.taken, ap length m.split, length-append m.taken held');
-            };
-      };
-      number = number;
-      few = omega (arith, taken.1, f.few, f.all, f.short);
-      ended = tt;
-    }

@@ -3,7 +3,7 @@ use Rattle.std.proofs.Common.{arith, refl, sym, ap, subst, ◌∙◌, ◌≡◌,
 use Rattle.std.proofs.lemmas.List.{length-append, take-append-le, drop-append-le, append-nil}
 use Rattle.std.proofs.Math.Seq.{take-append_seam, drop-append_seam}
 use Rattle.am_pcap.specs.Packets.{word, Packet, IsWhole, first_packet, behind_first, HoldsPackets}
-use Rattle.am_pcap.specs.Heads.{judged}
+use Rattle.am_pcap.specs.Heads.{IsHead, IsRefusedHead}
 use Rattle.am_pcap.specs.Captures.{HasSummary, IsTooLong, IsRecordError}
 use Rattle.am_pcap.specs.declared.refusal.CapError.{CapError}
 use Rattle.am_pcap.specs.declared.head.Head.{Head}
@@ -45,18 +45,18 @@ head-grows bytes ps count taken unfinished more s short =
 pub head-refused :
     (bytes : List ℕ) (ps : List Packet) (count taken : ℕ) (unfinished more : List ℕ) (e : CapError)
     → HasSummary bytes ps (record { head = None; count = count; unfinished = unfinished; taken = taken; error = None })
-    → length (unfinished ++ more) ≡ 24 → judged (unfinished ++ more) ≡ Err e
+    → length (unfinished ++ more) ≡ 24 → IsRefusedHead e (unfinished ++ more)
     → HasSummary (bytes ++ more) ps (record { head = None; count = count; unfinished = unfinished ++ more; taken = taken + length more; error = Some e })
 head-refused bytes ps count taken unfinished more e s long bad =
     let f : unfinished ++ more ≡ bytes ++ more = ap (λ x. x ++ more) s.split.rest in
     let long' : length (bytes ++ more) ≡ 24 = subst (λ x. length x ≡ 24) f long in
-    let bad' : judged (bytes ++ more) ≡ Err e = subst (λ x. judged x ≡ Err e) f bad in
+    let bad' : IsRefusedHead e (bytes ++ more) = subst (λ x. IsRefusedHead e x) f bad in
     record {
       count = s.count;
       taken = omega (arith, s.taken, length-append bytes more);
       split = record {
         whole = omega (arith, long');
-        bad = ap judged (take-whole 24 (bytes ++ more) long') ∙ bad';
+        bad = subst (λ x. IsRefusedHead e x) (sym (take-whole 24 (bytes ++ more) long')) bad';
         none = s.split.none;
         rest = f;
       };
@@ -66,19 +66,19 @@ head-refused bytes ps count taken unfinished more e s long bad =
 pub head-taken :
     (bytes : List ℕ) (ps : List Packet) (count taken : ℕ) (unfinished more : List ℕ) (h : Head)
     → HasSummary bytes ps (record { head = None; count = count; unfinished = unfinished; taken = taken; error = None })
-    → length (unfinished ++ more) ≡ 24 → judged (unfinished ++ more) ≡ Ok h
+    → length (unfinished ++ more) ≡ 24 → IsHead h (unfinished ++ more)
     → HasSummary (bytes ++ more) ps (record { head = Some h; count = count; unfinished = []; taken = taken + length more; error = None })
 head-taken bytes ps count taken unfinished more h s long good =
     let f : unfinished ++ more ≡ bytes ++ more = ap (λ x. x ++ more) s.split.rest in
     let long' : length (bytes ++ more) ≡ 24 = subst (λ x. length x ≡ 24) f long in
-    let good' : judged (bytes ++ more) ≡ Ok h = subst (λ x. judged x ≡ Ok h) f good in
+    let good' : IsHead h (bytes ++ more) = subst (λ x. IsHead h x) f good in
     let none : drop 24 (bytes ++ more) ≡ [] = drop-whole 24 (bytes ++ more) long' in
     record {
       count = s.count;
       taken = omega (arith, s.taken, length-append bytes more);
       split = record {
         whole = omega (arith, long');
-        head = ap judged (take-whole 24 (bytes ++ more) long') ∙ good';
+        head = subst (λ x. IsHead h x) (sym (take-whole 24 (bytes ++ more) long')) good';
         records = subst (λ x. HoldsPackets h.form.big (drop 24 (bytes ++ more)) x []) (sym s.split.none) none;
         no_more = λ (w : IsWhole h.form.big []). omega (arith, w.head);
         refused = λ (w : IsTooLong h.form.big []). omega (arith, w.head);
@@ -99,7 +99,7 @@ record-grows bytes ps h count taken unfinished more before error s stuck refused
       taken = omega (arith, s.taken, length-append bytes more);
       split = record {
         whole = omega (arith, s.split.whole, length-append bytes more);
-        head = ap judged a ∙ s.split.head;
+        head = subst (λ x. IsHead h x) (sym a) s.split.head;
         records = subst (λ x. HoldsPackets h.form.big x ps (unfinished ++ more)) (sym b)
             (packets-append h.form.big (drop 24 bytes) ps unfinished more s.split.records);
         no_more = stuck;
@@ -124,7 +124,7 @@ records-added bytes ps h count taken unfinished more before error qs rest s hold
       taken = omega (arith, s.taken, length-append bytes more);
       split = record {
         whole = omega (arith, s.split.whole, length-append bytes more);
-        head = ap judged a ∙ s.split.head;
+        head = subst (λ x. IsHead h x) (sym a) s.split.head;
         records = subst (λ x. HoldsPackets h.form.big x (ps ++ qs) rest) (sym b)
             (packets-join h.form.big (drop 24 bytes ++ more) ps (unfinished ++ more) qs rest
             (packets-append h.form.big (drop 24 bytes) ps unfinished more s.split.records) holds);

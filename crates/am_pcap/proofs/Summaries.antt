@@ -2,11 +2,12 @@
 use Rattle.std.proofs.Common.{arith, refl, sym, ap, subst, ◌∙◌, ◌≡◌, ℕ, ◌+◌, ◌≤◌, Bool, List, [], ◌++◌, length, take, drop, Option, Some, None, Result, Ok, Err, inl, inr}
 use Rattle.std.proofs.lemmas.Bool.{cases_lt}
 use Rattle.am_pcap.specs.Packets.{word, Packet, most_captured}
-use Rattle.am_pcap.specs.Heads.{judged}
+use Rattle.am_pcap.specs.Heads.{IsJudged}
 use Rattle.am_pcap.specs.Captures.{Summary, HasSummary, IsSplit, HasRecords, IsTooLong, IsRecordError}
 use Rattle.am_pcap.specs.declared.refusal.CapError.{CapError}
 use Rattle.am_pcap.specs.declared.refusal.CapError.TheVariants.{RecordTooLong}
 use Rattle.am_pcap.specs.declared.head.Head.{Head}
+use Rattle.am_pcap.proofs.Judged.{head-unique, head-not_refused, refused_head-unique, judged-exists}
 use Rattle.am_pcap.proofs.Splitting.{split-unique, split-exists}
 use Rattle.am_pcap.proofs.Steps.{records-added}
 
@@ -53,14 +54,14 @@ parts-unique bytes ps qs u v None None None None p q = record { packets = p.none
 parts-unique bytes ps qs u v None None None (Some e) p q = absurd (omega (arith, p.short, q.whole))
 parts-unique bytes ps qs u v None None (Some d) None p q = absurd (omega (arith, q.short, p.whole))
 parts-unique bytes ps qs u v None None (Some d) (Some e) p q =
-    let same : d ≡ e = cc (p.bad, q.bad) in
+    let same : d ≡ e = refused_head-unique (take 24 bytes) d e p.bad q.bad in
     record { packets = p.none ∙ sym q.none; unfinished = p.rest ∙ sym q.rest; head = refl; error = ap Some same }
 parts-unique bytes ps qs u v None (Some k) None e p q = absurd (omega (arith, p.short, q.whole))
-parts-unique bytes ps qs u v None (Some k) (Some d) e p q = absurd (cc (p.bad, q.head))
+parts-unique bytes ps qs u v None (Some k) (Some d) e p q = absurd (head-not_refused (take 24 bytes) k d q.head p.bad)
 parts-unique bytes ps qs u v (Some h) None d None p q = absurd (omega (arith, q.short, p.whole))
-parts-unique bytes ps qs u v (Some h) None d (Some e) p q = absurd (cc (p.head, q.bad))
+parts-unique bytes ps qs u v (Some h) None d (Some e) p q = absurd (head-not_refused (take 24 bytes) h e p.head q.bad)
 parts-unique bytes ps qs u v (Some h) (Some k) d e p q =
-    let same : h ≡ k = cc (p.head, q.head) in
+    let same : h ≡ k = head-unique (take 24 bytes) h k p.head q.head in
     parts-records bytes ps qs u v h k d e p q same
 
 -- a list of bytes has one summary, and its records have one list of packets
@@ -82,7 +83,7 @@ error-exists big number rest = elim (cases_lt (length rest) 16) [
 ]
 
 summary_by-head :
-    (bytes : List ℕ) (r : Result Head CapError) → 24 ≤ length bytes → judged (take 24 bytes) ≡ r
+    (bytes : List ℕ) (r : Result Head CapError) → 24 ≤ length bytes → IsJudged r (take 24 bytes)
     → (ps : List Packet) × (s : Summary) × HasSummary bytes ps s
 summary_by-head bytes (Err e) whole is = (
   [],
@@ -109,7 +110,7 @@ summary-exists bytes = elim (cases_lt (length bytes) 24) [
     record { head = None; count = 0; unfinished = bytes; taken = length bytes; error = None },
     record { count = refl; taken = refl; split = record { short = short; none = refl; rest = refl } },
   )
-  | inr whole ↦ summary_by-head bytes (judged (take 24 bytes)) whole refl
+  | inr whole ↦ let r = judged-exists (take 24 bytes) in summary_by-head bytes r.0 whole r.1
 ]
 
 -- what bytes behind a list add to a summary of it

@@ -1,7 +1,7 @@
 -- The verdict on a summary is what the bytes are: a capture, or refused for one reason.
 use Rattle.std.proofs.Common.{arith, refl, sym, ap, ◌∙◌, ◌≡◌, ℕ, ◌+◌, ◌≤◌, List, [], ◌∷◌, length, take, drop, Option, Some, None, Result, Ok, Err, inl, inr}
 use Rattle.am_pcap.specs.Packets.{Packet, IsWhole, HoldsPackets}
-use Rattle.am_pcap.specs.Heads.{judged}
+use Rattle.am_pcap.specs.Heads.{IsHead, IsRefusedHead}
 use Rattle.am_pcap.specs.Captures.{Summary, HasSummary, IsTooLong, IsVerdict, WhyRefused, verdict, unless_cut, unless_refused}
 use Rattle.am_pcap.specs.Decoded.{Decoded, StandsFor, nothing_taken}
 use Rattle.am_pcap.specs.declared.refusal.CapError.{CapError}
@@ -58,8 +58,8 @@ by-summary bytes ps qs s t r p q is =
     let same = summary-unique bytes ps qs s t p q in
     ap verdict same.1 ∙ is
 
-bad_record-summary :
-    (bytes : List ℕ) (e : CapError) (h : Head) (qs : List Packet) (rest : List ℕ) → 24 ≤ length bytes → judged (take 24 bytes) ≡ Ok h
+pub bad_record-summary :
+    (bytes : List ℕ) (e : CapError) (h : Head) (qs : List Packet) (rest : List ℕ) → 24 ≤ length bytes → IsHead h (take 24 bytes)
     → HoldsPackets h.form.big (drop 24 bytes) qs rest → (IsWhole h.form.big rest → ⊥) → WhyRefused h.form.big (length qs + 1) rest e
     → (t : Summary) × HasSummary bytes qs t × (verdict t ≡ Err e)
 bad_record-summary bytes e h qs rest whole head records stuck (inl p) = (

@@ -1,7 +1,7 @@
 -- What a list of bytes comes to as a capture: which records are whole in it, and what is left.
 use Rattle.std.specs.Prelude.{◌≡◌, ◌≢◌, ◌⊎◌, ℕ, ◌+◌, ◌<◌, ◌≤◌, Bool, List, [], ◌∷◌, length, take, drop, Option, Some, None, Result, Ok, Err}
 use Rattle.am_pcap.specs.Packets.{word, Packet, IsWhole, HoldsPackets, most_captured}
-use Rattle.am_pcap.specs.Heads.{judged}
+use Rattle.am_pcap.specs.Heads.{IsHead, IsRefusedHead}
 use Rattle.am_pcap.specs.declared.refusal.CapError.{CapError}
 use Rattle.am_pcap.specs.declared.refusal.CapError.TheVariants.{RecordTooLong, CutFile}
 use Rattle.am_pcap.specs.declared.head.Head.{Head}
@@ -9,7 +9,7 @@ use Rattle.am_pcap.specs.declared.head.Head.{Head}
 -- the bytes are a capture: a file header that is taken, and whole records with these packets to the end
 pub record IsCapture (bytes : List ℕ) (h : Head) (ps : List Packet) : Type 0 where
   pub whole : 24 ≤ length bytes
-  pub head : judged (take 24 bytes) ≡ Ok h
+  pub head : IsHead h (take 24 bytes)
   pub records : HoldsPackets h.form.big (drop 24 bytes) ps []
 
 -- the header of a record is there, and says more bytes than a record may have
@@ -40,14 +40,14 @@ pub record EndsInHead (bytes : List ℕ) (ps : List Packet) (unfinished : List �
 -- the file header is refused
 pub record HasBadHead (bytes : List ℕ) (ps : List Packet) (unfinished : List ℕ) (e : CapError) : Type 0 where
   pub whole : 24 ≤ length bytes
-  pub bad : judged (take 24 bytes) ≡ Err e
+  pub bad : IsRefusedHead e (take 24 bytes)
   pub none : ps ≡ []
   pub rest : unfinished ≡ bytes
 
 -- behind this file header stand whole records with these packets, and then no other whole one
 pub record HasRecords (bytes : List ℕ) (ps : List Packet) (unfinished : List ℕ) (h : Head) (error : Option CapError) : Type 0 where
   pub whole : 24 ≤ length bytes
-  pub head : judged (take 24 bytes) ≡ Ok h
+  pub head : IsHead h (take 24 bytes)
   pub records : HoldsPackets h.form.big (drop 24 bytes) ps unfinished
   pub no_more : IsWhole h.form.big unfinished → ⊥
   pub refused : IsRecordError h.form.big (length ps + 1) unfinished error
@@ -87,7 +87,7 @@ WhyRefused big number rest e =
 pub record HasBadRecord (bytes : List ℕ) (e : CapError) : Type 0 where
   pub whole : 24 ≤ length bytes
   pub h : Head
-  pub head : judged (take 24 bytes) ≡ Ok h
+  pub head : IsHead h (take 24 bytes)
   pub packets : List Packet
   pub rest : List ℕ
   pub records : HoldsPackets h.form.big (drop 24 bytes) packets rest
@@ -98,14 +98,14 @@ pub record HasBadRecord (bytes : List ℕ) (e : CapError) : Type 0 where
 abbrev pub IsRefused : CapError → List ℕ → Type 0
 IsRefused e bytes =
     ((length bytes < 24) × (e ≡ CutFile 0))
-    ⊎ ((24 ≤ length bytes) × (judged (take 24 bytes) ≡ Err e))
+    ⊎ ((24 ≤ length bytes) × IsRefusedHead e (take 24 bytes))
     ⊎ HasBadRecord bytes e
 
 -- the same, and these are the packets of the whole records before what is refused
 abbrev pub IsRefusedAfter : CapError → List ℕ → List Packet → Type 0
 IsRefusedAfter e bytes ps =
     ((length bytes < 24) × (e ≡ CutFile 0) × (ps ≡ []))
-    ⊎ ((24 ≤ length bytes) × (judged (take 24 bytes) ≡ Err e) × (ps ≡ []))
+    ⊎ ((24 ≤ length bytes) × IsRefusedHead e (take 24 bytes) × (ps ≡ []))
     ⊎ ((bad : HasBadRecord bytes e) × (bad.packets ≡ ps))
 
 -- what bytes are: a capture, or refused

@@ -1,5 +1,6 @@
 -- What stands in a file header: which form and link type it tells, or why it is refused.
-use Rattle.std.specs.Prelude.{◌≡◌, ◌≢◌, ℕ, ◌+◌, ◌*◌, ◌%◌, ◌^◌, ◌==◌, Bool, true, false, List, Option, Some, None, Result, Ok, Err, slice_index, cond}
+use Rattle.std.specs.Prelude.{◌≡◌, ◌≢◌, ℕ, ◌+◌, ◌*◌, ◌%◌, ◌^◌, Bool, true, false, List, take, Option, Some, None, Result, Ok, Err, slice_index, cond}
+use Rattle.std.specs.Int.{w32, to_be_bytes, to_le_bytes}
 use Rattle.am_pcap.specs.Packets.{word}
 use Rattle.am_pcap.specs.declared.record.Form.{Form}
 use Rattle.am_pcap.specs.declared.frame.LinkKind.{LinkKind}
@@ -28,9 +29,13 @@ link_number RawIp6 = 229
 abbrev pub link_bits : Bool → List ℕ → ℕ
 link_bits big bytes = word big bytes 20 % 2 ^ 16
 
+-- the four bytes of the magic of a form, in its byte order
+abbrev pub magic_bytes : Form → List ℕ
+magic_bytes form = cond form.big (to_be_bytes w32 (magic_of form.nano)) (to_le_bytes w32 (magic_of form.nano))
+
 -- the bytes begin with the magic of this form
 abbrev pub HasMagic : Form → List ℕ → Type 0
-HasMagic form bytes = word form.big bytes 0 ≡ magic_of form.nano
+HasMagic form bytes = take 4 bytes ≡ magic_bytes form
 
 -- the version behind the magic is 2.4
 abbrev pub HasVersion : Form → List ℕ → Type 0
@@ -60,32 +65,3 @@ IsJudged (Err e) bytes = IsRefusedHead e bytes
 abbrev pub SomeMagic : Option Form → List ℕ → Type 0
 SomeMagic (Some form) bytes = HasMagic form bytes
 SomeMagic None bytes = (form : Form) → HasMagic form bytes → ⊥
-
--- the same as a function: the form, as the first of the four whose magic stands there
-unfoldable pub form_of : List ℕ → Option Form
-form_of bytes =
-    cond (word false bytes 0 == magic_of false) (Some (record { big = false; nano = false }))
-    (cond (word false bytes 0 == magic_of true) (Some (record { big = false; nano = true }))
-    (cond (word true bytes 0 == magic_of false) (Some (record { big = true; nano = false }))
-    (cond (word true bytes 0 == magic_of true) (Some (record { big = true; nano = true })) None)))
-
--- the link type of a number
-abbrev pub kind_of : ℕ → Option LinkKind
-kind_of link = cond (link == 1) (Some Ethernet) (cond (link == 101) (Some RawIp) (cond (link == 229) (Some RawIp6) None))
-
--- the header of this form, by what its link type is
-abbrev pub head_of_kind : List ℕ → Form → Option LinkKind → Result Head CapError
-head_of_kind bytes form (Some kind) = Ok (record { raw = bytes; form = form; link = kind })
-head_of_kind bytes form None = Err (UnknownLink (link_bits form.big bytes))
-
--- the header of this form, or the first refusal behind its magic
-abbrev pub head_of_form : List ℕ → Option Form → Result Head CapError
-head_of_form bytes None = Err BadMagic
-head_of_form bytes (Some form) =
-    cond (half form.big bytes 4 == 2)
-    (cond (half form.big bytes 6 == 4) (head_of_kind bytes form (kind_of (link_bits form.big bytes))) (Err BadVersion))
-    (Err BadVersion)
-
--- what 24 bytes are as a file header
-unfoldable pub judged : List ℕ → Result Head CapError
-judged bytes = head_of_form bytes (form_of bytes)

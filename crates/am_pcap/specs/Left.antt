@@ -3,7 +3,8 @@ use Rattle.std.specs.Prelude.{⊤, Option, Result, IfOk, IfSome}
 use Rattle.std.specs.Borrow.{Fml, MutBor, follows_so}
 use mathlib.Core.Option.{none}
 use Rattle.am_base.specs.Shelves.{Told}
-use Rattle.am_pcap.specs.Readings.{Reading, GivesRecord}
+use Rattle.am_pcap.specs.Readings.{Reading}
+use Rattle.am_pcap.specs.Answers.{GivesRecord}
 use Rattle.am_pcap.specs.declared.record.Record.{Record}
 use Rattle.am_pcap.specs.declared.capture.FileError.{FileError}
 use Rattle.am_pcap.specs.contracts.capture.Capture.{the_row}

@@ -7,5 +7,7 @@ pub mod Decoded
 pub mod Lent
 pub mod Chunks
 pub mod Readings
+pub mod CaptureFiles
+pub mod Answers
 pub mod Seeking
 pub mod Left

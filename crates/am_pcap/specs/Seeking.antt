@@ -4,7 +4,9 @@ use Rattle.am_base.specs.Shelves.{Told, Takes, IsAtEnd}
 use Rattle.am_pcap.specs.Packets.{Packet}
 use Rattle.am_pcap.specs.Captures.{HasSummary}
 use Rattle.am_pcap.specs.Decoded.{Decoded}
-use Rattle.am_pcap.specs.Readings.{Reading, GivesEnd, IsCut, AreRefused, most_read}
+use Rattle.am_pcap.specs.Readings.{Reading, IsCut, AreRefused, most_read}
+use Rattle.am_pcap.specs.CaptureFiles.{IsRefusedHeader}
+use Rattle.am_pcap.specs.Answers.{GivesEnd}
 use Rattle.am_pcap.specs.declared.refusal.CapError.{CapError}
 use Rattle.am_pcap.specs.declared.head.Head.{Head}
 use Rattle.am_pcap.specs.declared.capture.FileError.{FileError}
@@ -123,10 +125,10 @@ pub record HeadFed (d : Decoded) (held : List ℕ) (d' : Decoded) (held' : List 
   pub missing : d'.summary.head ≡ None → (held' ≡ []) × (d'.summary.taken < 24)
   pub moves : (bytes : List ℕ) → HasSummary bytes [] d.summary → Holds d' held' (bytes ++ held) []
 
--- the file header is refused
+-- the file header is refused, whatever bytes follow those that are held
 pub record HeadBad (d : Decoded) (held : List ℕ) (e : CapError) : Type 0 where
   pub not_cut : IsCut e → ⊥
-  pub refused : (bytes : List ℕ) → HasSummary bytes [] d.summary → AreRefused e (bytes ++ held) []
+  pub refused : (bytes rest : List ℕ) → HasSummary bytes [] d.summary → IsRefusedHeader ((bytes ++ held) ++ rest) e
 
 -- the file header is whole, and is this one
 pub record HeadFound (d d' : Decoded) (held' : List ℕ) (read' : ℕ) (before after : Option Told) (h : Head) : Type 0 where
@@ -155,7 +157,8 @@ pub record HeadRefused (d : Decoded) (before after : Option Told) (e : CapError)
   pub more : List ℕ
   pub took : Takes before after more
   pub at_end : IsCut e → IsAtEnd after
-  pub refused : (bytes : List ℕ) → HasSummary bytes [] d.summary → AreRefused e (bytes ++ more) [] × (length (bytes ++ more) ≤ most_read)
+  pub refused : (bytes rest : List ℕ) → HasSummary bytes [] d.summary → (IsCut e → rest ≡ []) → IsRefusedHeader ((bytes ++ more) ++ rest) e
+  pub short : (bytes : List ℕ) → HasSummary bytes [] d.summary → length (bytes ++ more) ≤ most_read
 
 -- why the file header can't be had
 abbrev pub HeadFails : Decoded → Option Told → Option Told → FileError → Type 0

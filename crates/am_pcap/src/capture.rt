@@ -4,7 +4,10 @@ ghost use Rattle.std.specs.Borrow.{sem};
 ghost use Rattle.am_base.specs.Counts.{Rose};
 ghost use Rattle.am_base.specs.Shelves.{IsAbsent, Takes, IsAtEnd};
 ghost use Rattle.am_base.specs.Files.{KeepsFiles};
-ghost use Rattle.am_pcap.specs.Readings.{Reading, GivesRecord, GivesEnd, GivesError, Opened, WhyNotOpened, most_read};
+ghost use Rattle.am_pcap.specs.Readings.{Reading};
+ghost use Rattle.am_pcap.specs.CaptureFiles.{ReadsOn, WhyNotOpened};
+ghost use Rattle.am_pcap.specs.Answers.{GivesRecord, GivesEnd, GivesError, EndsReading, StopsReading};
+ghost use Rattle.am_pcap.specs.declared.head.Head.{Head};
 ghost use Rattle.am_pcap.specs.declared.capture.FileError.TheVariants.{Missing, ReadFault};
 
 use crate::decoder::Decoder;
@@ -53,7 +56,8 @@ impl Model for Capture {
 
     ghost Value = { Reading };
 
-    ghost view = { λ a. record { decoded = a.decoder; held = a.held; read = a.read; over = a.over } };
+    ghost view = { λ a.
+        record { decoded = a.decoder; held = a.held; read = a.read; over = a.over } };
 
     ghost invariant = { λ a. IsInOrder a.decoder a.held a.head a.read a.over };
 }
@@ -66,10 +70,14 @@ impl Capture {
     /// `Missing`: no file has this name. `ReadFault`: the shelf failed. `Bad`: the file header is refused, or the file
     /// ends before it does. `Memory`: there was not enough.
     pub fn open<S: Shelf>(alloc: Global, shelf: &mut S, name: &str) -> Result<Capture, FileError>
-        ensures opened { IfOk result (λ c. Opened c (S.told shelf.old) (S.told shelf.new) name.now) }
-        ensures refused { IfErr result (λ e. WhyNotOpened (S.told shelf.old) (S.told shelf.new) name.now e) }
-        ensures missing { IsErrOf result Missing → (Rose (S.missed shelf.old) (S.missed shelf.new)) × IsAbsent (S.told shelf.old) name.now }
-        ensures read_fault { IsErrOf result ReadFault → Rose (S.faults shelf.old) (S.faults shelf.new) }
+        ensures reads { IfOk result (λ c. (h : Head) × (c.decoded.summary.head ≡ Some h)
+            × ReadsOn (S.told shelf.old) (S.told shelf.new) name.now c h []) }
+        ensures refused { IfErr result (λ e.
+            WhyNotOpened (S.told shelf.old) (S.told shelf.new) name.now e) }
+        ensures missing { IsErrOf result Missing → (Rose (S.missed shelf.old) (S.missed shelf.new))
+            × IsAbsent (S.told shelf.old) name.now }
+        ensures read_fault { IsErrOf result ReadFault
+            → Rose (S.faults shelf.old) (S.faults shelf.new) }
         ensures files { KeepsFiles (S.told shelf.old) (S.told shelf.new) }
         ensures faults_stay { S.faults shelf.old ≤ S.faults shelf.new }
         ensures missed_stay { S.missed shelf.old ≤ S.missed shelf.new }
@@ -112,12 +120,21 @@ impl Capture {
     /// other error comes, and behind None or an error nothing may be asked.
     pub fn next<S: Shelf>(&mut self, shelf: &mut S) -> Result<Option<Record<'_>>, FileError>
         requires { self.old.over ≡ false }
-        ensures* leaves { sem 𝓛 (LeavesGiven self.entry self.old (S.told shelf.old) (S.told shelf.new) result) }
-        ensures number { IfOk result (λ o. IfSome o (λ r. r.number ≡ self.old.decoded.summary.count + 1)) }
+        ensures* leaves { sem 𝓛
+            (LeavesGiven self.entry self.old (S.told shelf.old) (S.told shelf.new) result) }
+        ensures number { IfOk result (λ o. IfSome o (λ r.
+            r.number ≡ self.old.decoded.summary.count + 1)) }
         ensures few { IfOk result (λ o. IfSome o (λ r. r.number ≤ 2 ^ 36)) }
-        ensures ended { IfOk result (λ o. IfNone o (GivesEnd self.old (S.told shelf.old) (S.told shelf.new))) }
-        ensures refused { IfErr result (λ e. GivesError self.old (S.told shelf.old) (S.told shelf.new) e) }
-        ensures read_fault { IsErrOf result ReadFault → Rose (S.faults shelf.old) (S.faults shelf.new) }
+        ensures ended { IfOk result (λ o.
+            IfNone o (EndsReading self.old (S.told shelf.old) (S.told shelf.new))) }
+        ensures at_end { IfOk result (λ o.
+            IfNone o (GivesEnd self.old (S.told shelf.old) (S.told shelf.new))) }
+        ensures refused { IfErr result (λ e.
+            StopsReading self.old (S.told shelf.old) (S.told shelf.new) e) }
+        ensures error { IfErr result (λ e.
+            GivesError self.old (S.told shelf.old) (S.told shelf.new) e) }
+        ensures read_fault { IsErrOf result ReadFault
+            → Rose (S.faults shelf.old) (S.faults shelf.new) }
         ensures faults_stay { S.faults shelf.old ≤ S.faults shelf.new }
         ensures missed_stay { S.missed shelf.old ≤ S.missed shelf.new }
     {

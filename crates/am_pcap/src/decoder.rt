@@ -48,7 +48,9 @@ impl Model for Decoder {
 
     ghost view = { λ a. shown a.buffer.items a.head a.error a.count a.taken a.full a.waiting };
 
-    ghost invariant = { λ a. IsSound (vec_capacity a.buffer) a.buffer.items a.head a.error a.count a.taken a.full a.waiting };
+    ghost invariant = { λ a.
+        IsSound (vec_capacity a.buffer) a.buffer.items a.head a.error a.count a.taken a.full
+        a.waiting };
 }
 
 impl Decoder {
@@ -82,9 +84,14 @@ impl Decoder {
         ensures all { IfOk result (λ n. n < length piece.now → IsSome self.new.waiting) }
         ensures stalled { IsSome self.old.waiting → (result ≡ Ok 0) × (self.new ≡ self.old) }
         ensures counts { OnOk result (self.old.waiting ≡ None → Counts self.old self.new) }
-        ensures refused { IfErr result (λ e. self.old.summary.error ≡ None → Refused self.old self.new piece.now e) }
-        ensures head { IsSome self.old.summary.head → self.new.summary.head ≡ self.old.summary.head }
-        ensures repeated { (e : CapError) → self.old.summary.error ≡ Some e → (result ≡ Err e) × (self.new ≡ self.old) }
+        ensures refused { IfErr result (λ e. self.old.summary.error ≡ None
+            → Refused self.old self.new piece.now e) }
+        // Behind a record that waits nothing is unfinished.
+        ensures left { IsSome self.new.waiting → self.new.summary.unfinished ≡ [] }
+        ensures head { IsSome self.old.summary.head
+            → self.new.summary.head ≡ self.old.summary.head }
+        ensures repeated { (e : CapError) → self.old.summary.error ≡ Some e
+            → (result ≡ Err e) × (self.new ≡ self.old) }
     {
         if let Some(error) = self.error {
             return Err(error);
@@ -151,6 +158,7 @@ impl Decoder {
         ensures counts { OnOk result (Counts self.old self.new) }
         ensures head { self.new.summary.head ≡ self.old.summary.head }
         ensures refused { IfErr result (λ e. Refused self.old self.new piece.now e) }
+        ensures left { IsSome self.new.waiting → self.new.summary.unfinished ≡ [] }
     {
         let Some(head) = self.head else {
             prove!(false);
@@ -185,8 +193,8 @@ impl Decoder {
         Ok(n + m)
     }
 
-    /// Whether a record waits.
-    pub fn is_waiting(&self) -> bool
+    // Whether a record waits.
+    pub(crate) fn is_waiting(&self) -> bool
         ensures { IsTrue result ↔ IsSome self.now.waiting }
     {
         self.waiting
@@ -195,7 +203,8 @@ impl Decoder {
     /// The record that waits, which then waits no longer. Some exactly where one waits.
     pub fn take(&mut self) -> Option<Record<'_>>
         ensures* leaves { sem 𝓛 (Leaves self.entry (after_take self.old)) }
-        ensures record { MatchOption result (self.old.waiting ≡ None) (λ r. (self.old.waiting ≡ Some (packet_shown r)) × (r.number ≡ self.old.summary.count)) }
+        ensures record { MatchOption result (self.old.waiting ≡ None) (λ r.
+            (self.old.waiting ≡ Some (packet_shown r)) × (r.number ≡ self.old.summary.count)) }
     {
         let Some(head) = self.head else {
             return None;

@@ -1,9 +1,8 @@
 //! The headers of a capture: that of the file, and that of a record.
-ghost use Rattle.std.specs.Prelude.{◌≡◌, ◌+◌, ◌++◌, ◌∷◌, ℕ, [], ◌<◌, ◌≤◌, ◌≢◌, ◌^◌, List, length, Ok, IfSome, IfNone, cond};
+ghost use Rattle.std.specs.Prelude.{◌≡◌, ◌+◌, ◌++◌, ◌∷◌, ℕ, [], ◌<◌, ◌≤◌, ◌≢◌, ◌^◌, ◌↔◌, List, length, IfSome, IfNone, IsTrue, cond};
 ghost use Rattle.std.specs.Int.{w32, to_be_bytes, to_le_bytes};
 ghost use Rattle.am_pcap.specs.Packets.{word, HoldsPackets};
-ghost use Rattle.am_pcap.specs.Heads.{half, magic_of, link_number, link_bits, IsHead, IsJudged, SomeMagic, judged};
-ghost use Rattle.am_pcap.specs.Heads as heads;
+ghost use Rattle.am_pcap.specs.Heads.{half, magic_of, link_number, link_bits, HasMagic, IsHead, IsJudged, SomeMagic};
 ghost use Rattle.am_pcap.specs.declared.frame.LinkKind.{LinkKind};
 
 use crate::frame::LinkKind;
@@ -26,12 +25,32 @@ const MICRO: u32 = 0xa1b2_c3d4;
 
 const NANO: u32 = 0xa1b2_3c4d;
 
+/// The four forms of a capture.
+const LITTLE_MICRO: Form = Form {
+    big: false,
+    nano: false,
+};
+
+const LITTLE_NANO: Form = Form {
+    big: false,
+    nano: true,
+};
+
+const BIG_MICRO: Form = Form {
+    big: true,
+    nano: false,
+};
+
+const BIG_NANO: Form = Form {
+    big: true,
+    nano: true,
+};
+
 /// The 24 bytes of a file header of this form and link type, in the form's byte order: zone and accuracy are 0, the
 /// snapshot length is 262,144, and the upper 16 bits of the link type are 0.
 #[tactic(auto, unfolding(crate::specs::Packets::word, crate::specs::Heads::half))]
 pub fn file_head(form: Form, link: LinkKind) -> [u8; 24]
     ensures read_back { IsHead (record { raw = result; form = form; link = link }) result }
-    ensures judged { judged result ≡ Ok (record { raw = result; form = form; link = link }) }
     ensures zone { word form.big result 8 ≡ 0 }
     ensures accuracy { word form.big result 12 ≡ 0 }
     ensures snapshot { word form.big result 16 ≡ 262144 }
@@ -68,7 +87,9 @@ pub fn record_head(
     ensures captured { word form.big result 8 ≡ captured }
     ensures original { word form.big result 12 ≡ original }
     ensures spelled { (bytes : List ℕ) → length bytes ≡ captured → captured ≤ 262144
-        → HoldsPackets form.big (result ++ bytes) (record { seconds = seconds; fraction = fraction; original = original; bytes = bytes } ∷ []) [] }
+        → HoldsPackets form.big (result ++ bytes)
+        (record { seconds = seconds; fraction = fraction; original = original; bytes = bytes } ∷ [])
+        [] }
 {
     let a = word_bytes(form.big, seconds);
     let b = word_bytes(form.big, fraction);
@@ -81,10 +102,8 @@ pub fn record_head(
 }
 
 // What 24 bytes are as a file header: magic, then version, then link type.
-#[tactic(auto, unfolding(crate::specs::Heads::judged))]
 pub fn judge(raw: [u8; 24]) -> Result<Head, CapError>
-    ensures told { IsJudged result raw }
-    ensures value { result ≡ judged raw }
+    ensures { IsJudged result raw }
 {
     let Some(form) = form_of(&raw) else {
         return Err(CapError::BadMagic);
@@ -103,39 +122,33 @@ pub fn judge(raw: [u8; 24]) -> Result<Head, CapError>
 }
 
 // The form whose magic stands at the front.
-#[tactic(auto, unfolding(crate::specs::Heads::form_of))]
+#[tactic(auto, using(crate::proofs::Judged::no_form))]
 fn form_of(bytes: &[u8]) -> Option<Form>
     requires { length bytes.now ≡ 24 }
-    ensures magic { SomeMagic result bytes.now }
-    ensures value { result ≡ heads.form_of bytes.now }
+    ensures { SomeMagic result bytes.now }
 {
-    let little = word_at(false, bytes, 0);
-    if little == MICRO {
-        return Some(Form {
-            big: false,
-            nano: false,
-        });
+    if has_magic(bytes, LITTLE_MICRO) {
+        return Some(LITTLE_MICRO);
     }
-    if little == NANO {
-        return Some(Form {
-            big: false,
-            nano: true,
-        });
+    if has_magic(bytes, LITTLE_NANO) {
+        return Some(LITTLE_NANO);
     }
-    let big = word_at(true, bytes, 0);
-    if big == MICRO {
-        return Some(Form {
-            big: true,
-            nano: false,
-        });
+    if has_magic(bytes, BIG_MICRO) {
+        return Some(BIG_MICRO);
     }
-    if big == NANO {
-        return Some(Form {
-            big: true,
-            nano: true,
-        });
+    if has_magic(bytes, BIG_NANO) {
+        return Some(BIG_NANO);
     }
     None
+}
+
+// Whether the magic of a form stands at the front.
+fn has_magic(bytes: &[u8], form: Form) -> bool
+    requires { length bytes.now ≡ 24 }
+    ensures { IsTrue result ↔ HasMagic form bytes.now }
+{
+    let word = word_bytes(form.big, magic(form.nano));
+    &bytes[..4] == word.as_slice()
 }
 
 // The lower 16 bits of the link type.
@@ -148,7 +161,6 @@ fn link_at(big: bool, bytes: &[u8]) -> u16
 
 // The link type of this number.
 fn kind_of(link: u16) -> Option<LinkKind>
-    ensures value { result ≡ heads.kind_of link }
     ensures known { IfSome result (λ k. link ≡ link_number k) }
     ensures unknown { IfNone result ((k : LinkKind) → link ≢ link_number k) }
 {

@@ -101,7 +101,8 @@ fn read_chunk<S: Shelf>(shelf: &mut S, chunk: &mut Vec<u8>) -> Result<usize, Fau
     requires { 0 < vec_len chunk.old }
     ensures room { vec_len chunk.new ≡ vec_len chunk.old }
     ensures bound { IfOk result (λ n. n ≤ vec_len chunk.new) }
-    ensures taken { IfOk result (λ n. Takes (S.told shelf.old) (S.told shelf.new) (take n chunk.new.items)) }
+    ensures taken { IfOk result (λ n.
+        Takes (S.told shelf.old) (S.told shelf.new) (take n chunk.new.items)) }
     ensures end { IfOk result (λ n. n ≡ 0 → IsAtEnd (S.told shelf.old)) }
     ensures unchanged { OnErr result (S.told shelf.new ≡ S.told shelf.old) }
     ensures failed { OnErr result (Rose (S.faults shelf.old) (S.faults shelf.new)) }

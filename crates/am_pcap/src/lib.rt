@@ -12,6 +12,7 @@ mod decoder;
 mod frame;
 mod head;
 mod held;
+mod laws;
 mod record;
 mod refusal;
 #[cfg(test)]
@@ -22,5 +23,6 @@ pub use capture::{Capture, FileError};
 pub use decoder::Decoder;
 pub use frame::{Frame, LinkKind, packet_of};
 pub use head::{Head, file_head, record_head};
+pub use laws::{beginnings_agree, captures_are_one, frames_are_one};
 pub use record::{Form, Record};
 pub use refusal::CapError;

@@ -3,7 +3,8 @@ ghost use Rattle.std.specs.Prelude.{◌≡◌, ◌+◌, ◌*◌, ◌<◌, ◌≤
 ghost use Rattle.am_base.specs.Counts.{Rose};
 ghost use Rattle.am_base.specs.Shelves.{Takes, IsAtEnd};
 ghost use Rattle.am_pcap.specs.Captures.{HasSummary};
-ghost use Rattle.am_pcap.specs.Readings.{GivesError, most_read};
+ghost use Rattle.am_pcap.specs.Readings.{most_read};
+ghost use Rattle.am_pcap.specs.Answers.{GivesError};
 ghost use Rattle.am_pcap.specs.Seeking.{InOrder, Drains, DrainsTo, RefillFails, HeadUnread, HeadFed, HeadBad, HeadFound, HeadFails, HeadSteps, Steps, Sought, reading_of};
 ghost use Rattle.am_pcap.specs.declared.capture.FileError.TheVariants.{ReadFault};
 
@@ -39,8 +40,11 @@ pub fn open_head<S: Shelf>(
     shelf: &mut S,
 ) -> Result<Head, FileError>
     requires { HeadUnread decoder.old held.old read.old }
-    ensures found { IfOk result (λ h. HeadFound decoder.old decoder.new held.new read.new (S.told shelf.old) (S.told shelf.new) h) }
-    ensures fails { IfErr result (λ e. HeadFails decoder.old (S.told shelf.old) (S.told shelf.new) e) }
+    ensures found { IfOk result (λ h.
+        HeadFound decoder.old decoder.new held.new read.new
+        (S.told shelf.old) (S.told shelf.new) h) }
+    ensures fails { IfErr result (λ e.
+        HeadFails decoder.old (S.told shelf.old) (S.told shelf.new) e) }
     ensures read_fault { IsErrOf result ReadFault → Rose (S.faults shelf.old) (S.faults shelf.new) }
     ensures faults_stay { S.faults shelf.old ≤ S.faults shelf.new }
     ensures missed_stay { S.missed shelf.old ≤ S.missed shelf.new }
@@ -62,8 +66,11 @@ fn head_step<S: Shelf>(
     shelf: &mut S,
 ) -> Result<Option<Head>, FileError>
     requires { HeadUnread decoder.old held.old read.old }
-    ensures steps { IfOk result (λ o. HeadSteps decoder.old read.old decoder.new held.new read.new (S.told shelf.old) (S.told shelf.new) o) }
-    ensures fails { IfErr result (λ e. HeadFails decoder.old (S.told shelf.old) (S.told shelf.new) e) }
+    ensures steps { IfOk result (λ o.
+        HeadSteps decoder.old read.old decoder.new held.new read.new
+        (S.told shelf.old) (S.told shelf.new) o) }
+    ensures fails { IfErr result (λ e.
+        HeadFails decoder.old (S.told shelf.old) (S.told shelf.new) e) }
     ensures read_fault { IsErrOf result ReadFault → Rose (S.faults shelf.old) (S.faults shelf.new) }
     ensures faults_stay { S.faults shelf.old ≤ S.faults shelf.new }
     ensures missed_stay { S.missed shelf.old ≤ S.missed shelf.new }
@@ -112,8 +119,12 @@ pub fn seek<S: Shelf>(
 ) -> Result<bool, FileError>
     requires order { InOrder decoder.old held.old read.old }
     requires head { IsSome decoder.old.summary.head }
-    ensures sought { IfOk result (λ found. Sought decoder.old held.old read.old decoder.new held.new read.new (S.told shelf.old) (S.told shelf.new) found) }
-    ensures refused { IfErr result (λ e. GivesError (reading_of decoder.old held.old read.old) (S.told shelf.old) (S.told shelf.new) e) }
+    ensures sought { IfOk result (λ found.
+        Sought decoder.old held.old read.old decoder.new held.new read.new
+        (S.told shelf.old) (S.told shelf.new) found) }
+    ensures refused { IfErr result (λ e.
+        GivesError (reading_of decoder.old held.old read.old)
+        (S.told shelf.old) (S.told shelf.new) e) }
     ensures head { decoder.new.summary.head ≡ decoder.old.summary.head }
     ensures read_fault { IsErrOf result ReadFault → Rose (S.faults shelf.old) (S.faults shelf.new) }
     ensures faults_stay { S.faults shelf.old ≤ S.faults shelf.new }
@@ -138,8 +149,12 @@ fn seek_step<S: Shelf>(
 ) -> Result<Step, FileError>
     requires order { InOrder decoder.old held.old read.old }
     requires head { IsSome decoder.old.summary.head }
-    ensures steps { IfOk result (λ s. Steps decoder.old held.old read.old decoder.new held.new read.new (S.told shelf.old) (S.told shelf.new) s) }
-    ensures refused { IfErr result (λ e. GivesError (reading_of decoder.old held.old read.old) (S.told shelf.old) (S.told shelf.new) e) }
+    ensures steps { IfOk result (λ s.
+        Steps decoder.old held.old read.old decoder.new held.new read.new
+        (S.told shelf.old) (S.told shelf.new) s) }
+    ensures refused { IfErr result (λ e.
+        GivesError (reading_of decoder.old held.old read.old)
+        (S.told shelf.old) (S.told shelf.new) e) }
     ensures head { decoder.new.summary.head ≡ decoder.old.summary.head }
     ensures read_fault { IsErrOf result ReadFault → Rose (S.faults shelf.old) (S.faults shelf.new) }
     ensures faults_stay { S.faults shelf.old ≤ S.faults shelf.new }
@@ -188,10 +203,12 @@ fn refill<S: Shelf>(held: &mut Held, read: &mut u64, shelf: &mut S) -> Result<bo
     requires short { read.old ≤ most_read }
     ensures taken { OnOk result (Takes (S.told shelf.old) (S.told shelf.new) held.new) }
     ensures more { IfOk result (λ more. more ≡ true → 0 < length held.new) }
-    ensures end { IfOk result (λ more. more ≡ false → (held.new ≡ []) × IsAtEnd (S.told shelf.old)) }
+    ensures end { IfOk result (λ more.
+        more ≡ false → (held.new ≡ []) × IsAtEnd (S.told shelf.old)) }
     ensures read { OnOk result (read.new ≡ read.old + length held.new) }
     ensures short { OnOk result (read.new ≤ most_read) }
-    ensures fails { IfErr result (λ e. RefillFails read.old (S.told shelf.old) (S.told shelf.new) e) }
+    ensures fails { IfErr result (λ e.
+        RefillFails read.old (S.told shelf.old) (S.told shelf.new) e) }
     ensures read_fault { IsErrOf result ReadFault → Rose (S.faults shelf.old) (S.faults shelf.new) }
     ensures faults_stay { S.faults shelf.old ≤ S.faults shelf.new }
     ensures missed_stay { S.missed shelf.old ≤ S.missed shelf.new }

@@ -18,5 +18,6 @@ returns-in-Ok-clause-fed c =
 pub returns-in-Err-clause-bad : goal.returns-in-Err-clause-bad
 returns-in-Err-clause-bad c =
     let front : take c.min-n.result c.bytes.result.now ≡ take c.min-n.result c.args.held.now = ap (λ x. take c.min-n.result x) c.bytes.ensures in
-    head-bad c.args.decoder.now c.feed.new.self c.args.held.now c.min-n.result c.in-Err.error c.requires.told c.requires.none_waits
+    head-bad c.args.decoder.now c.feed.new.self c.args.held.now c.args.missing c.min-n.result c.in-Err.error c.requires.told c.requires.none_waits c.requires.missing
+    (c.min-n.ensures ∙ ap (λ x. min c.args.missing x) c.len.ensures.value)
     (subst (λ x. Refused c.args.decoder.now c.feed.new.self x c.in-Err.error) front (c.in-Err.ensures.refused c.requires.clean))

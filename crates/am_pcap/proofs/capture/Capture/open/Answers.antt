@@ -1,8 +1,8 @@
 use Rattle.am_pcap.proofs.HeadReading.{head-opened, head-not_opened}
 use Rattle.am_pcap.proofs.capture.Capture.open.Goals as goal
 
-pub returns-in-Ok-open_head-clause-opened : goal.returns-in-Ok-open_head-clause-opened
-returns-in-Ok-open_head-clause-opened g c =
+pub returns-in-Ok-open_head-clause-reads : goal.returns-in-Ok-open_head-clause-reads
+returns-in-Ok-open_head-clause-reads g c =
     head-opened c.in-Ok-new.decoder c.open_head.new.decoder c.open_head.new.held c.open_head.new.read
     (g.S.Shelf.told c.args.shelf.now) (g.S.Shelf.told c.open.new.self) (g.S.Shelf.told c.open_head.new.shelf) c.args.name.now c.in-Ok-open_head.head
     c.in-Ok-new.ensures c.in-Ok.ensures.opened c.in-Ok-open_head.ensures.found

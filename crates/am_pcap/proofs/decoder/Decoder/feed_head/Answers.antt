@@ -1,7 +1,7 @@
 -- A file header that became whole is taken, or refused.
-use Rattle.std.proofs.Common.{arith, sym, ap, ◌∙◌, ◌≡◌, length, take, ◌++◌, ◌<◌, None, Ok, Err}
+use Rattle.std.proofs.Common.{arith, ap, subst, ◌∙◌, ◌≡◌, length, take, ◌++◌, ◌<◌, None}
 use Rattle.std.proofs.lemmas.List.{length-append}
-use Rattle.am_pcap.specs.Heads.{judged}
+use Rattle.am_pcap.specs.Heads.{IsHead, IsRefusedHead}
 use Rattle.am_pcap.proofs.Feeding.{shown-head, shown-bad_head, front_length}
 use Rattle.am_pcap.proofs.decoder.Decoder.feed_head.Goals as goal
 
@@ -14,8 +14,8 @@ returns-in-Ok-clause-took c =
     let n = front_length c.fill-n.result c.args.piece.now c.fill-n.ensures.within in
     let long : length (c.self.inside.buffer.items ++ take c.fill-n.result c.args.piece.now) ≡ 24 =
     omega (arith, short, n, length-append c.self.inside.buffer.items (take c.fill-n.result c.args.piece.now)) in
-    let good : judged (c.self.inside.buffer.items ++ take c.fill-n.result c.args.piece.now) ≡ Ok c.in-Ok.head =
-    ap judged (sym all) ∙ sym c.judge.ensures.value ∙ c.in-Ok.is in
+    let good : IsHead c.in-Ok.head (c.self.inside.buffer.items ++ take c.fill-n.result c.args.piece.now) =
+    subst (λ x. IsHead c.in-Ok.head x) all c.in-Ok.ensures in
     rw (← c.self.view_is)
     (shown-head c.self.inside.buffer.items c.self.inside.head c.self.inside.error c.self.inside.count c.self.inside.taken c.self.inside.full
     c.self.inside.waiting c.args.piece.now c.fill-n.result c.in-Ok.head c.clear.new.self.items head error
@@ -30,8 +30,8 @@ returns-in-Err-clause-refused c =
     let n = front_length c.fill-n.result c.args.piece.now c.fill-n.ensures.within in
     let long : length (c.self.inside.buffer.items ++ take c.fill-n.result c.args.piece.now) ≡ 24 =
     omega (arith, short, n, length-append c.self.inside.buffer.items (take c.fill-n.result c.args.piece.now)) in
-    let bad : judged (c.self.inside.buffer.items ++ take c.fill-n.result c.args.piece.now) ≡ Err c.in-Err.error =
-    ap judged (sym all) ∙ sym c.judge.ensures.value ∙ c.in-Err.is in
+    let bad : IsRefusedHead c.in-Err.error (c.self.inside.buffer.items ++ take c.fill-n.result c.args.piece.now) =
+    subst (λ x. IsRefusedHead c.in-Err.error x) all c.in-Err.ensures in
     rw (← c.self.view_is)
     (shown-bad_head c.self.inside.buffer.items c.self.inside.head c.self.inside.error c.self.inside.count c.self.inside.taken c.self.inside.full
     c.self.inside.waiting c.args.piece.now c.fill-n.result c.in-Err.error c.fill-n.new.buffer.items head error
