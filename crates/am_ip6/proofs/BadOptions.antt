@@ -1,22 +1,22 @@
 -- A header whose options aren't an option list, from what is known of its bytes.
-use Rattle.std.proofs.Common.{ap, subst, ◌∙◌, ◌≡◌, ℕ, ◌+◌, List, length, take, drop}
-use Rattle.am_opts.specs.Options.{Placed, IsLongest, joined}
+use Rattle.std.proofs.Common.{ap, subst, ◌∙◌, ◌≡◌, ℕ, ◌+◌, List, take, drop}
+use Rattle.am_opts.specs.Options.{IsLongest, StopsAt}
 use Rattle.am_ip6.specs.Chains.{Spot, IsWalked, FitsAt, HasOptions, header_length}
 use Rattle.am_ip6.specs.Endings.{HasBadOptions}
 
 pub bad_options :
     (b : List ℕ) (s : Spot) (size fault : ℕ) (header : List ℕ) → IsWalked s → (s.kind ≡ 43 → ⊥) → FitsAt b s.at
     → size ≡ header_length b s.at → header ≡ take size (drop s.at b) → (HasOptions header → ⊥)
-    → ((options : List Placed) × IsLongest 0 (drop 2 header) options × (fault ≡ length (joined options)))
+    → StopsAt (drop 2 header) fault
     → HasBadOptions b s (s.at + 2 + fault)
-bad_options b s size fault header walked kind fits size_is header_is bad place =
+bad_options b s size fault header walked kind fits size_is header_is bad stops =
     let e : header ≡ take (header_length b s.at) (drop s.at b) = header_is ∙ ap (λ n. take n (drop s.at b)) size_is in
     record {
       walked = walked;
       kind = kind;
       fits = fits;
-      options = place.0;
-      longest = subst (λ x. IsLongest 0 (drop 2 x) place.0) e place.1;
+      options = stops.options;
+      longest = subst (λ x. IsLongest 0 (drop 2 x) stops.options) e stops.longest;
       bad = subst (λ x. HasOptions x → ⊥) e bad;
-      place_is = ap (λ n. s.at + 2 + n) place.2;
+      place_is = ap (λ n. s.at + 2 + n) stops.place_is;
     }

@@ -4,4 +4,6 @@ pub mod BadOptions
 pub mod LeftLemmas
 pub mod MarkLemmas
 pub mod SeenLemmas
+pub mod Yields
+pub mod SeenOnce
 pub mod Exists

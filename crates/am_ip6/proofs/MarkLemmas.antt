@@ -1,8 +1,7 @@
 -- Options that spell a mark or none, and the first one of a list.
-use Rattle.std.proofs.Common.{arith, sym, ap, subst, ◌∙◌, ◌≡◌, ℕ, ◌+◌, ◌≤◌, List, [], ◌∷◌, ◌++◌, length, take, length-append}
+use Rattle.std.proofs.Common.{arith, refl, sym, ap, subst, ◌∙◌, ◌≡◌, ℕ, ◌+◌, ◌≤◌, List, [], ◌∷◌, ◌++◌, length, take, length-append}
 use Rattle.std.proofs.lemmas.List.{append-nil, take_all}
 use Rattle.std.proofs.Math.Seq.{take-length}
-use Rattle.am_opts.proofs.Longest.{all_of}
 use Rattle.std.proofs.lemmas.Grind.{flat_map-append}
 use Rattle.am_opts.specs.Marking.{Marking, Spells}
 use Rattle.am_opts.specs.Options.{Placed, IsOption, Follow, joined, IsOptionsOf, IsLongest}
@@ -25,14 +24,22 @@ pub spells_none :
     (bs : List ℕ) → ((n : ℕ) (m : Marking) → n ≤ length bs → Spells (take n bs) m → ⊥) → (m : Marking) → Spells bs m → ⊥
 spells_none bs none m s = none (length bs) m (omega arith) (subst (λ x. Spells x m) (sym (take-length bs)) s)
 
+-- a list without elements is empty
+none_left : (rest : List ℕ) → length rest ≡ 0 → rest ≡ []
+none_left [] e = refl
+none_left (x ∷ rest) e = absurd (omega (arith, e))
+
 -- where an area is an option list, its longest front is that list
 pub list_of :
     (area : List ℕ) (all options : List Placed) → IsLongest 0 area all → IsOptionsOf area options → IsOptionsOf area all
 list_of area all options l is =
     let tail = l.longest options [] is.follow (is.whole ∙ sym (append-nil (joined options))) in
-    let many : length (joined all) ≡ length area =
+    let none : length l.rest ≡ 0 =
     omega (arith, ap length is.whole, ap length l.split, length-append (joined all) l.rest, ap (λ x. length (joined x)) tail.1, ap length (flat_map-append (λ (o : Placed). o.bytes) options tail.0), length-append (joined options) (joined tail.0)) in
-    all_of area all l many
+    record {
+      whole = l.split ∙ ap (λ (r : List ℕ). joined all ++ r) (none_left l.rest none) ∙ append-nil (joined all);
+      follow = l.follow;
+    }
 
 -- an option among others that follow one another
 pub among :

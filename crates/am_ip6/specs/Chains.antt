@@ -1,6 +1,6 @@
 -- The chain of extension headers of a packet (RFC 8200, sections 4.1 to 4.4 and 4.6).
 use Rattle.std.specs.Prelude.{◌≡◌, ◌≢◌, ◌⊎◌, ℕ, ◌+◌, ◌*◌, ◌≤◌, List, [], ◌∷◌, ◌++◌, length, take, drop, slice_index}
-use Rattle.am_opts.specs.Options.{Placed, IsOptionsOf}
+use Rattle.am_opts.specs.Options.{IsOptionList}
 use Rattle.am_ip6.specs.Fixed.{IsFixed, limit_of}
 
 -- an extension header: its number, the place of its first byte in the packet, and its bytes
@@ -38,7 +38,7 @@ pub record FitsAt (packet : List ℕ) (at : ℕ) : Type 0 where
 
 -- what stands behind a header's first two bytes is an option list
 abbrev pub HasOptions : List ℕ → Type 0
-HasOptions header = (options : List Placed) × IsOptionsOf (drop 2 header) options
+HasOptions header = IsOptionList (drop 2 header)
 
 -- a header stands at this spot of the packet
 pub record Stands (packet : List ℕ) (s : Spot) (h : Lent) : Type 0 where

@@ -6,3 +6,4 @@ pub mod Shown
 pub mod Left
 pub mod Marks
 pub mod Seen
+pub mod Laws

@@ -26,6 +26,11 @@ abbrev pub SeenIn : Place → List ℕ → Bool → List Lent → Ended → Seen
 SeenIn HopByHop packet whole hs ended seen = SeenInHopByHop packet whole hs ended seen
 SeenIn Destination packet whole hs ended seen = SeenInDestination packet whole hs ended seen
 
+-- what is found, whatever the headers and the ending of the packet are
+abbrev pub SeenInEach : Place → List ℕ → Bool → Seen → Type 0
+SeenInEach place packet whole seen =
+    (hs : List Lent) (ended : Ended) → HasHeaders packet hs → EndsSo packet whole hs ended → SeenIn place packet whole hs ended seen
+
 -- what is found of a mark in this kind of header of a packet, by its headers and by how its walk ends behind them
 pub record IsSeen (packet : List ℕ) (whole : Bool) (place : Place) (seen : Seen) : Type 0 where
   pub headers : List Lent

@@ -4,9 +4,9 @@
 //! Options. Each begins with Next Header, which announces what follows, and Hdr Ext Len, which counts the
 //! header's bytes in units of 8 behind the first 8. Whatever else is announced ends the chain.
 
-ghost use Rattle.std.specs.Prelude.{◌≡◌, ◌≢◌, ◌+◌, ◌≤◌, ◌↔◌, List, IsTrue, IfOk, IfErr, IfSome, IfNone, MatchOption, MatchResult, take, drop, length, min};
+ghost use Rattle.std.specs.Prelude.{◌≡◌, ◌≢◌, ◌+◌, ◌≤◌, ◌↔◌, List, IsTrue, IfOk, OnOk, IfErr, OnErr, IfSome, IfNone, MatchOption, MatchResult, take, drop, length, min};
 ghost use Rattle.std.specs.Bool.{MatchBool};
-ghost use Rattle.am_opts.specs.Options.{Placed, IsLongest, joined};
+ghost use Rattle.am_opts.specs.Options.{StopsAt};
 ghost use Rattle.am_ip6.specs.Fixed.{IsFixed, limit_of, parts_of};
 ghost use Rattle.am_ip6.specs.Chains.{IsWalked, FitsAt, HasOptions, Stands, first_spot, spot_behind, header_length};
 ghost use Rattle.am_ip6.specs.Endings.{IsOtherVersion, LacksBytes, MayBeCut, EndsAt, EndsEarly};
@@ -67,9 +67,11 @@ pub(crate) struct Announced {
 
 // What the fixed header announces, or how a packet without one of version 6 ends.
 pub(crate) fn start(bytes: &[u8], whole: bool) -> Result<Announced, Ending>
-    ensures fixed { IfOk result (λ s. IsFixed bytes.now × (spot_shown s ≡ first_spot bytes.now)) }
+    ensures fixed { OnOk result (IsFixed bytes.now) }
+    ensures first { IfOk result (λ s. spot_shown s ≡ first_spot bytes.now) }
     ensures within { IfOk result (λ s. s.at ≤ limit_of bytes.now) }
-    ensures other { IfErr result (λ e. (IsFixed bytes.now → ⊥) × EndsEarly bytes.now whole (ending_shown e)) }
+    ensures other { OnErr result (IsFixed bytes.now → ⊥) }
+    ensures early { IfErr result (λ e. EndsEarly bytes.now whole (ending_shown e)) }
 {
     if !begins_with_fixed(bytes) {
         return Err(early(bytes, whole));
@@ -112,8 +114,10 @@ pub(crate) fn step<'a>(
     requires within { spot.at ≤ limit_of bytes.now }
     ensures stands { IfOk result (λ r. Stands bytes.now (spot_shown spot) (lent r.0)) }
     ensures behind { IfOk result (λ r. spot_shown r.1 ≡ spot_behind bytes.now (lent r.0)) }
-    ensures within { IfOk result (λ r. (spot.at + 8 ≤ r.1.at) × (r.1.at ≤ limit_of bytes.now)) }
-    ensures room { IfOk result (λ r. (2 ≤ length r.0.bytes.now) × (length r.0.bytes.now ≤ 2048) × (r.0.at + length r.0.bytes.now ≤ length bytes.now)) }
+    ensures on { IfOk result (λ r. spot.at + 8 ≤ r.1.at) }
+    ensures within { IfOk result (λ r. r.1.at ≤ limit_of bytes.now) }
+    ensures room { IfOk result (λ r. (2 ≤ length r.0.bytes.now) × (length r.0.bytes.now ≤ 2048)) }
+    ensures there { IfOk result (λ r. r.0.at + length r.0.bytes.now ≤ length bytes.now) }
     ensures ends { IfErr result (λ e. EndsAt bytes.now whole (spot_shown spot) (ending_shown e)) }
 {
     let Announced { kind, at, told_at } = spot;
@@ -171,7 +175,8 @@ fn limit(bytes: &[u8]) -> usize
 fn size_at(bytes: &[u8], at: usize) -> Option<usize>
     requires whole { 40 ≤ length bytes.now }
     requires within { at ≤ limit_of bytes.now }
-    ensures { MatchOption result (FitsAt bytes.now at → ⊥) (λ n. FitsAt bytes.now at × (n ≡ header_length bytes.now at)) }
+    ensures fits { MatchOption result (FitsAt bytes.now at → ⊥) (λ n. FitsAt bytes.now at) }
+    ensures value { IfSome result (λ n. n ≡ header_length bytes.now at) }
 {
     let room = limit(bytes) - at;
     if room < 2 {
@@ -221,7 +226,7 @@ fn options_fault(header: &[u8]) -> Option<usize>
     requires most { length header.now ≤ 2048 }
     ensures none { IfNone result (HasOptions header.now) }
     ensures bad { IfSome result (λ place. HasOptions header.now → ⊥) }
-    ensures place { IfSome result (λ place. (options : List Placed) × IsLongest 0 (drop 2 header.now) options × (place ≡ length (joined options))) }
+    ensures place { IfSome result (λ place. StopsAt (drop 2 header.now) place) }
 {
     let (_, area) = header.split_at(2);
     match check_options(area) {

@@ -16,7 +16,7 @@
 //!
 //! Numbers are in network order.
 
-ghost use Rattle.std.specs.Prelude.{◌≡◌, ◌+◌, ◌*◌, ◌/◌, ◌%◌, ◌≤◌, ◌↔◌, IsTrue, IsSome, IfSome, take, drop, length, slice_index};
+ghost use Rattle.std.specs.Prelude.{◌≡◌, ◌+◌, ◌*◌, ◌/◌, ◌%◌, ◌≤◌, ◌↔◌, IsTrue, IsSome, IfSome, OnSome, take, drop, length, slice_index};
 ghost use Rattle.std.specs.Bool.{MatchBool};
 ghost use Rattle.am_ip6.specs.Fixed.{IsFixed, parts_of};
 ghost use Rattle.am_ip6.specs.FixedShown.{parts_shown};
@@ -50,7 +50,8 @@ impl Fixed {
     /// The fixed header that the bytes begin with. None exactly where there are fewer than 40 bytes, or
     /// where the version isn't 6.
     pub fn read(bytes: &[u8]) -> Option<Fixed>
-        ensures parts { IfSome result (λ f. IsFixed bytes.now × (parts_shown f ≡ parts_of bytes.now)) }
+        ensures parts { IfSome result (λ f. parts_shown f ≡ parts_of bytes.now) }
+        ensures only { OnSome result (IsFixed bytes.now) }
         ensures found { IsFixed bytes.now → IsSome result }
     {
         if !begins_with_fixed(bytes) {

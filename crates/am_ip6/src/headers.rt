@@ -8,6 +8,7 @@ ghost use Rattle.am_ip6.specs.Endings.{EndsSo};
 ghost use Rattle.am_ip6.specs.Shown.{ending_shown};
 
 use crate::chain::{Announced, Ending, Header, start, step};
+use am_opts::longest_front_law;
 
 /// The extension headers of a packet, in order: as many as stand whole one behind another.
 ///
@@ -30,6 +31,7 @@ impl<'a> Walk<'a> {
         ensures headers { HasHeaders bytes.now (left result) }
         ensures few { length (left result) ≤ length bytes.now }
     {
+        longest_front_law();
         let Ok(spot) = start(bytes, whole) else {
             return Walk {
                 bytes,
@@ -57,6 +59,7 @@ impl<'a> Iterator for Walk<'a> {
     ghost remaining = { item_count left };
 
     fn next(&mut self) -> Option<Header<'a>> {
+        longest_front_law();
         let Some(spot) = self.spot else {
             return None;
         };
@@ -75,7 +78,8 @@ impl<'a> Iterator for Walk<'a> {
 
 /// How the walk of a packet ends behind the headers that it lends, where all of its bytes are there or not.
 pub fn walk_ending(bytes: &[u8], whole: bool) -> Ending
-    ensures { (hs : List Lent) → HasHeaders bytes.now hs → EndsSo bytes.now whole hs (ending_shown result) }
+    ensures { (hs : List Lent)
+        → HasHeaders bytes.now hs → EndsSo bytes.now whole hs (ending_shown result) }
 {
     let mut spot = match start(bytes, whole) {
         Ok(first) => first,

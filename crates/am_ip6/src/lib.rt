@@ -13,6 +13,7 @@
 mod chain;
 mod fixed_header;
 mod headers;
+mod laws;
 mod marks;
 #[cfg(test)]
 mod tests;
@@ -20,4 +21,5 @@ mod tests;
 pub use chain::{Ending, Header};
 pub use fixed_header::Fixed;
 pub use headers::{Walk, walk_ending};
+pub use laws::{seen_law, walk_law};
 pub use marks::{Found, Place, find_mark};

@@ -3,16 +3,16 @@
 //! A mark stands in a Hop-by-Hop Options header, or in a Destination Options header. The first one in
 //! headers of the wanted kind counts.
 
-ghost use Rattle.std.specs.Prelude.{◌≡◌, ◌≢◌, ◌+◌, ◌^◌, ◌<◌, ◌≤◌, List, length, drop, IfSome, MatchOption};
+ghost use Rattle.std.specs.Prelude.{◌≡◌, ◌≢◌, ◌+◌, ◌^◌, ◌<◌, ◌≤◌, List, length, drop, IfSome, IfNone, MatchOption};
 ghost use Rattle.am_opts.specs.Marking.{Marking, Spells};
-ghost use Rattle.am_opts.specs.Options.{Placed, IsOption, IsOptionsOf};
-ghost use Rattle.am_ip6.specs.Chains.{Lent, HasHeaders, HasOptions};
-ghost use Rattle.am_ip6.specs.Endings.{Ended, EndsSo};
-ghost use Rattle.am_ip6.specs.Marks.{HasMark, HasNoMark, MarksHeader, IsPassed, SeenInHopByHop, SeenInDestination};
+ghost use Rattle.am_opts.specs.Options.{IsOption, IsOptionList};
+ghost use Rattle.am_ip6.specs.Chains.{HasOptions};
+ghost use Rattle.am_ip6.specs.Marks.{Seen, HasMark, HasNoMark, MarksHeader, IsPassed};
 ghost use Rattle.am_ip6.specs.Shown.{lent, ending_shown};
-ghost use Rattle.am_ip6.specs.Seen.{seen_shown, IsUnlessCut, SeenIn, IsSeen};
+ghost use Rattle.am_ip6.specs.Seen.{seen_shown, IsUnlessCut, SeenInEach, IsSeen};
 
 use crate::chain::{DESTINATION, Ending, HOP_BY_HOP, Header, start, step};
+use crate::laws::{seen_law, walk_law};
 use am_opts::{Mark, Options, decode_mark};
 
 /// The kind of header that marks stand in.
@@ -42,9 +42,13 @@ pub fn find_mark(bytes: &[u8], whole: bool, place: Place) -> Found
     ensures seen { IsSeen bytes.now whole place (seen_shown result) }
 
     // Whatever the headers and the ending are, they show this.
-    ensures each { (hs : List Lent) (ended : Ended) → HasHeaders bytes.now hs → EndsSo bytes.now whole hs ended
-        → SeenIn place bytes.now whole hs ended (seen_shown result) }
+    ensures each { SeenInEach place bytes.now whole (seen_shown result) }
+
+    // And nothing else is found in the packet.
+    ensures only { (seen : Seen) → IsSeen bytes.now whole place seen → seen ≡ seen_shown result }
 {
+    walk_law();
+    seen_law();
     match place {
         Place::HopByHop => find_in_hop_by_hop(bytes, whole),
         Place::Destination => find_in_destination(bytes, whole),
@@ -53,8 +57,7 @@ pub fn find_mark(bytes: &[u8], whole: bool, place: Place) -> Found
 
 // The first mark in the Hop-by-Hop Options header, which stands first or nowhere.
 fn find_in_hop_by_hop(bytes: &[u8], whole: bool) -> Found
-    ensures { (hs : List Lent) (ended : Ended) → HasHeaders bytes.now hs → EndsSo bytes.now whole hs ended
-        → SeenInHopByHop bytes.now whole hs ended (seen_shown result) }
+    ensures { SeenInEach Place.HopByHop bytes.now whole (seen_shown result) }
 {
     let first = match start(bytes, whole) {
         Ok(first) => first,
@@ -74,8 +77,7 @@ fn find_in_hop_by_hop(bytes: &[u8], whole: bool) -> Found
 
 // The first mark in the Destination Options headers.
 fn find_in_destination(bytes: &[u8], whole: bool) -> Found
-    ensures { (hs : List Lent) (ended : Ended) → HasHeaders bytes.now hs → EndsSo bytes.now whole hs ended
-        → SeenInDestination bytes.now whole hs ended (seen_shown result) }
+    ensures { SeenInEach Place.Destination bytes.now whole (seen_shown result) }
 {
     let mut spot = match start(bytes, whole) {
         Ok(first) => first,
@@ -124,7 +126,7 @@ fn mark_in(header: Header, kind: u8) -> Option<(Mark, usize)>
 
 // The first mark in an option list, and the place of its option's type there.
 fn first_mark(area: &[u8]) -> Option<(Mark, usize)>
-    requires { (options : List Placed) × IsOptionsOf area.now options }
+    requires { IsOptionList area.now }
     ensures cases { MatchOption result (HasNoMark area.now) (λ m. HasMark area.now m.0 m.1) }
     ensures within { IfSome result (λ m. m.1 ≤ length area.now) }
 {
@@ -139,7 +141,8 @@ fn first_mark(area: &[u8]) -> Option<(Mark, usize)>
 // The mark that an option spells.
 fn spelled(option: &[u8]) -> Option<Mark>
     requires { IsOption option.now }
-    ensures { MatchOption result ((m : Marking) → Spells option.now m → ⊥) (λ m. Spells option.now m) }
+    ensures some { IfSome result (λ m. Spells option.now m) }
+    ensures none { IfNone result ((m : Marking) → Spells option.now m → ⊥) }
 {
     let Some((mark, _)) = decode_mark(option) else {
         return None;

@@ -1,11 +1,11 @@
 -- The longest front of an area that is an option list: that it is one alone, and how it begins.
-use Rattle.std.proofs.Common.{arith, map, true, false, cond, leb, refl, ap, sym, subst, ◌∙◌, ◌≡◌, ℕ, zero, suc, ◌+◌, ◌<◌, ◌≤◌, List, [], ◌∷◌, ◌++◌, length, take, drop, append_assoc, length-append}
+use Rattle.std.proofs.Common.{arith, map, ⊎_elim, true, false, cond, leb, refl, ap, sym, subst, ◌∙◌, ◌≡◌, ℕ, zero, suc, ◌+◌, ◌<◌, ◌≤◌, List, [], ◌∷◌, ◌++◌, length, take, drop, append_assoc, length-append}
 use Rattle.std.proofs.lemmas.List.{append-nil, take-append-drop, length-take-le, length-drop, drop-drop}
 use Rattle.std.proofs.Math.Seq.{drop-append_seam}
 use Rattle.std.proofs.lemmas.Grind.{flat_map-append}
 use Rattle.std.specs.Iterator.{Yields, YieldsFirstBy}
-use Rattle.std.proofs.lemmas.Bool.{leb-true, le-leb}
-use Rattle.am_opts.specs.Options.{Placed, IsOption, Follow, joined, IsOptionsOf, IsLongest}
+use Rattle.std.proofs.lemmas.Bool.{leb-true, le-leb, cases_eq}
+use Rattle.am_opts.specs.Options.{Placed, IsOption, Follow, joined, IsOptionsOf, IsOptionList, BeginsWithNone, IsLongest}
 use Rattle.am_opts.specs.Lent.{option_length, told_length, options_from, options_behind}
 
 -- an option has bytes
@@ -35,10 +35,6 @@ option_lengths (k ∷ n ∷ a) (l ∷ m ∷ b) x y g h e = let same : n ≡ m = 
 
 pub one_option : (a b x y : List ℕ) → IsOption a → IsOption b → a ++ x ≡ b ++ y → (a ≡ b) × (x ≡ y)
 one_option a b x y g h e = same_front a b x y (option_lengths a b x y g h e) e
-
--- the bytes begin with no option
-abbrev pub BeginsWithNone : List ℕ → Type 0
-BeginsWithNone bytes = (option after : List ℕ) → IsOption option → bytes ≡ option ++ after → ⊥
 
 none_longer :
     (begin : ℕ) (bytes : List ℕ) → BeginsWithNone bytes
@@ -245,3 +241,26 @@ none_of area all l other options is =
       length-append (joined options) (joined longer.0),
       ap length is.whole,
     ))
+
+-- so they are the whole area where it is an option list
+pub all_listed : (area : List ℕ) (all : List Placed) → IsLongest 0 area all → IsOptionList area → length (joined all) ≡ length area
+all_listed area all l is =
+    ⊎_elim (λ e. e) (λ n. absurd (none_of area all l n is.0 is.1)) (cases_eq (length (joined all)) (length area))
+
+-- lists of options that are the same bytes are the same
+same_options : (begin : ℕ) (os ps : List Placed) → Follow begin os → Follow begin ps → joined os ≡ joined ps → os ≡ ps
+same_options begin [] [] f g e = refl
+same_options begin [] (p ∷ ps) f g e =
+    absurd (omega (arith, option_some p.bytes g.1, ap length e, length-append p.bytes (joined ps)))
+same_options begin (o ∷ os) [] f g e =
+    absurd (omega (arith, option_some o.bytes f.1, ap length e, length-append o.bytes (joined os)))
+same_options begin (o ∷ os) (p ∷ ps) f g e =
+    let parts = one_option o.bytes p.bytes (joined os) (joined ps) f.1 g.1 e in
+    let same : o ≡ p = grind (arith, f.0, g.0, parts.0) in
+    let next : Follow (begin + length o.bytes) ps = subst (λ (b : List ℕ). Follow (begin + length b) ps) (sym parts.0) g.2 in
+    let rest = same_options (begin + length o.bytes) os ps f.2 next parts.1 in
+    cc (same, rest)
+
+-- so an area is an option list in one way
+pub list_one : (area : List ℕ) (options others : List Placed) → IsOptionsOf area options → IsOptionsOf area others → options ≡ others
+list_one area options others a b = same_options 0 options others a.follow b.follow (sym a.whole ∙ b.whole)

@@ -65,6 +65,15 @@ spells-one bs n word m mark is from until s =
     (cc (s.bits, e, is)) s.below (bit-le _) (bit-le _) (omega (arith, from)) (omega (arith, until)) (bit-le _) (bit-le _)
     in same_parts m mark parts.0 (bit-injective _ _ parts.1) (bit-injective _ _ parts.2)
 
+-- bytes spell one mark at most
+pub spells-unique : (bs : List ℕ) (a b : Marking) → Spells bs a → Spells bs b → a ≡ b
+spells-unique bs a b s t =
+    let word = ap word_of s.spelled in
+    let again = ap word_of t.spelled in
+    let parts = same_flow b.flow a.flow (bit b.loss) (bit b.delay) (bit a.loss) (bit a.delay) t.reserved (word_of bs)
+    (omega (arith, t.bits, again)) t.below (bit-le _) (bit-le _) (omega (arith, s.bits, word)) (omega (arith, s.bits, s.below, word)) (bit-le _) (bit-le _)
+    in same_parts a b parts.0 (bit-injective _ _ parts.1) (bit-injective _ _ parts.2)
+
 -- type, length and a mark's data spell it
 pub spells-six :
     (bs : List ℕ) (word : ℕ) (m : Marking) → 6 ≤ length bs → slice_index_or bs 0 0 ≡ 18 → slice_index_or bs 1 0 ≡ 4

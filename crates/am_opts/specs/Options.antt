@@ -26,9 +26,29 @@ pub record IsOptionsOf (area : List ℕ) (options : List Placed) : Type 0 where
   pub whole : area ≡ joined options
   pub follow : Follow 0 options
 
+-- the bytes are an option list
+abbrev pub IsOptionList : List ℕ → Type 0
+IsOptionList area = (options : List Placed) × IsOptionsOf area options
+
+-- the bytes are a list of so many options
+pub record HasOptionsSoMany (area : List ℕ) (n : ℕ) : Type 0 where
+  pub options : List Placed
+  pub list : IsOptionsOf area options
+  pub count : n ≡ length options
+
+-- the bytes begin with no option
+abbrev pub BeginsWithNone : List ℕ → Type 0
+BeginsWithNone bytes = (option after : List ℕ) → IsOption option → bytes ≡ option ++ after → ⊥
+
 -- the options of the longest front of an area that is an option list, the first of which begins at this place: those of each other front that is one come first among them
 pub record IsLongest (begin : ℕ) (area : List ℕ) (options : List Placed) : Type 0 where
   pub rest : List ℕ
   pub split : area ≡ joined options ++ rest
   pub follow : Follow begin options
   pub longest : (others : List Placed) (after : List ℕ) → Follow begin others → area ≡ joined others ++ after → (tail : List Placed) × (options ≡ others ++ tail)
+
+-- the longest front of the bytes that is an option list has so many bytes
+pub record StopsAt (area : List ℕ) (place : ℕ) : Type 0 where
+  pub options : List Placed
+  pub longest : IsLongest 0 area options
+  pub place_is : place ≡ length (joined options)

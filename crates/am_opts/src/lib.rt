@@ -7,7 +7,9 @@
 #![tactic(auto)]
 
 mod altmark;
+mod laws;
 mod options;
 
 pub use altmark::{Mark, decode_mark, encode_mark};
+pub use laws::{longest_front_law, mark_law};
 pub use options::{Opt, OptFault, Options, check_options};

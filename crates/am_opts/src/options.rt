@@ -6,7 +6,7 @@
 //! (RFC 9343, section 3). Nothing here allocates or copies a byte.
 
 ghost use Rattle.std.specs.Prelude.{◌≡◌, ℕ, ◌+◌, ◌≤◌, List, ◌++◌, length, IfSome, IfNone, IfOk, IfErr, OnErr, IsOk};
-ghost use Rattle.am_opts.specs.Options.{Placed, IsOption, IsOptionsOf, IsLongest, joined};
+ghost use Rattle.am_opts.specs.Options.{IsOption, IsOptionList, HasOptionsSoMany, StopsAt, BeginsWithNone, IsLongest};
 
 // The type of a Pad1, which has no length and no data (RFC 8200, section 4.2).
 const PAD1: u8 = 0;
@@ -75,10 +75,10 @@ impl<'a> Iterator for Options<'a> {
 /// most 2,046 bytes.
 pub fn check_options(area: &[u8]) -> Result<u32, OptFault>
     requires { length area.now ≤ 2046 }
-    ensures count { IfOk result (λ n. (options : List Placed) × IsOptionsOf area.now options × (n ≡ length options)) }
-    ensures fault { IfErr result (λ e. (options : List Placed) × IsLongest 0 area.now options × (e.place ≡ length (joined options))) }
-    ensures whole { (options : List Placed) → IsOptionsOf area.now options → IsOk result }
-    ensures refused { OnErr result ((options : List Placed) → IsOptionsOf area.now options → ⊥) }
+    ensures count { IfOk result (λ n. HasOptionsSoMany area.now n) }
+    ensures fault { IfErr result (λ e. StopsAt area.now e.place) }
+    ensures whole { IsOptionList area.now → IsOk result }
+    ensures refused { OnErr result (IsOptionList area.now → ⊥) }
 {
     let mut count: u32 = 0;
     let mut end: usize = 0;
@@ -97,7 +97,7 @@ pub fn check_options(area: &[u8]) -> Result<u32, OptFault>
 fn first_option(bytes: &[u8]) -> Option<&[u8]>
     ensures option { IfSome result (λ o. IsOption o.now) }
     ensures front { IfSome result (λ o. (after : List ℕ) × (bytes.now ≡ o.now ++ after)) }
-    ensures none { IfNone result ((option after : List ℕ) → IsOption option → bytes.now ≡ option ++ after → ⊥) }
+    ensures none { IfNone result (BeginsWithNone bytes.now) }
 {
     let length = match bytes {
         [] => return None,

@@ -14,7 +14,7 @@ returns-in-Some c = λ hs ended has so.
 pub loop-header-preserved : goal.loop-header-preserved
 loop-header-preserved c = (
   c.loop-header.invariant.0,
-  c.in-Ok-step.ensures.within.1,
+  c.in-Ok-step.ensures.within,
   λ hs longest. reaches-more (IsPassed 60) _ _ (spot_shown c.loop-header.spot) _ (lent c.in-Ok-step.header) hs
       (c.loop-header.invariant.2 hs longest) c.in-Ok-step.ensures.stands c.in_default.ensures c.in-Ok-step.ensures.behind,
 )

@@ -15,15 +15,15 @@ overflow_add-end c =
     omega (arith, fits, c.loop-option.invariant.3, c.requires)
 
 pub returns-then-end-area-clause-refused : goal.returns-then-end-area-clause-refused
-returns-then-end-area-clause-refused c options is =
+returns-then-end-area-clause-refused c is =
     let all = ap left (sym c.into_iter-option-iterator.ensures.into_iter_gives)
     ∙ yields_all placed left _ c.loop-option.yielded _ c.loop-option.yielded_by c.in-None.ensures.steps.0 in
     let size = ap (λ (os : List Placed). length (joined os)) all in
     none_of c.args.area.now _ c.over-option-items.ensures.longest
-    (λ e. omega (arith, e, size, c.loop-option.invariant.3)) options is
+    (λ e. omega (arith, e, size, c.loop-option.invariant.3)) is.0 is.1
 
 pub returns-then-end-area-clause-whole : goal.returns-then-end-area-clause-whole
-returns-then-end-area-clause-whole c options is = absurd (returns-then-end-area-clause-refused c options is)
+returns-then-end-area-clause-whole c is = absurd (returns-then-end-area-clause-refused c is)
 
 pub returns-clause-count : goal.returns-clause-count
 returns-clause-count c =
@@ -31,4 +31,8 @@ returns-clause-count c =
     ∙ yields_all placed left _ c.loop-option.yielded _ c.loop-option.yielded_by c.in-None.ensures.steps.0 in
     let size = ap (λ (os : List Placed). length (joined os)) all in
     let whole = all_of c.args.area.now _ c.over-option-items.ensures.longest (omega (arith, size, c.loop-option.invariant.3)) in
-    (left c.over-option-items.result, whole, c.loop-option.invariant.2 ∙ sym (length-map c.loop-option.yielded placed) ∙ sym (ap length all))
+    record {
+      options = left c.over-option-items.result;
+      list = whole;
+      count = c.loop-option.invariant.2 ∙ sym (length-map c.loop-option.yielded placed) ∙ sym (ap length all);
+    }

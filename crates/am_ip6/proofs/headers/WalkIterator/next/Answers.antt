@@ -8,17 +8,17 @@ use Rattle.am_ip6.proofs.headers.WalkIterator.next.Goals as goal
 pub returns-in-Ok-clause-steps : goal.returns-in-Ok-clause-steps
 returns-in-Ok-clause-steps c =
     ap (λ o. left_from c.args.self.now.bytes.now o) c.in-Some.is
-    ∙ left-some c.args.self.now.bytes.now (spot_shown c.in-Some.spot) (spot_shown c.in-Ok.behind) (lent c.in-Ok.header) c.in-Ok.ensures.stands c.in-Ok.ensures.behind
+    ∙ left-some c.longest_front_law.ensures c.args.self.now.bytes.now (spot_shown c.in-Some.spot) (spot_shown c.in-Ok.behind) (lent c.in-Ok.header) c.in-Ok.ensures.stands c.in-Ok.ensures.behind
 
 pub returns-in-Ok-clause-goes : goal.returns-in-Ok-clause-goes
 returns-in-Ok-clause-goes c =
     let next = ap (λ o. left_from c.args.self.now.bytes.now o) c.in-Some.is
-    ∙ left-some c.args.self.now.bytes.now (spot_shown c.in-Some.spot) (spot_shown c.in-Ok.behind) (lent c.in-Ok.header) c.in-Ok.ensures.stands c.in-Ok.ensures.behind in
+    ∙ left-some c.longest_front_law.ensures c.args.self.now.bytes.now (spot_shown c.in-Some.spot) (spot_shown c.in-Ok.behind) (lent c.in-Ok.header) c.in-Ok.ensures.stands c.in-Ok.ensures.behind in
     record { on = λ f. (tt, tt, omega (arith, ap length next)); keeps = tt; rests = λ f. tt }
 
 pub returns-in-Err-clause-steps : goal.returns-in-Err-clause-steps
 returns-in-Err-clause-steps c = (
   ap (λ o. left_from c.args.self.now.bytes.now o) c.in-Some.is
-      ∙ left-none c.args.self.now.bytes.now c.args.self.now.whole (spot_shown c.in-Some.spot) (ending_shown c.in-Err.field-0) c.in-Err.ensures.ends,
+      ∙ left-none c.longest_front_law.ensures c.args.self.now.bytes.now c.args.self.now.whole (spot_shown c.in-Some.spot) (ending_shown c.in-Err.field-0) c.in-Err.ensures.ends,
   refl,
 )

@@ -1,6 +1,7 @@
 -- What stands at the place decides: an option comes first and the options behind it follow, or none follow.
 use Rattle.std.proofs.Common.{arith, sym, subst, ap, ◌∙◌, length}
-use Rattle.am_opts.proofs.Longest.{BeginsWithNone, behind_none, behind_some}
+use Rattle.am_opts.specs.Options.{BeginsWithNone}
+use Rattle.am_opts.proofs.Longest.{behind_none, behind_some}
 use Rattle.am_opts.proofs.options.OptionsIterator.next.Goals as goal
 
 pub returns-in_default-clause-steps : goal.returns-in_default-clause-steps
