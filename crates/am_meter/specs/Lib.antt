@@ -1,0 +1,4 @@
+pub mod Marks
+pub mod Streaming
+pub mod Streams
+pub mod Looks

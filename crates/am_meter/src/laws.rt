@@ -1,0 +1,21 @@
+//! What holds of the marked records of bytes: a law, which is the contract of a function that does nothing.
+ghost use Rattle.std.specs.Prelude.{◌≡◌, ℕ, List, Ok, Err};
+ghost use Rattle.am_ip6.specs.declared.marks.Place.{Place};
+ghost use Rattle.am_meter.specs.Marks.{JudgesMarks, MarksRefusal};
+ghost use Rattle.am_meter.specs.declared.stream.Marked.{Marked};
+
+use am_ip6::seen_law;
+use am_pcap::{beginnings_agree, captures_are_one, frames_are_one};
+
+/// Bytes have one list of marked records, and bytes that have one are not refused.
+pub fn marks_are_one()
+    ensures one { (place : Place) (bytes : List ℕ) (ms ns : List Marked)
+        → JudgesMarks place bytes (Ok ms) → JudgesMarks place bytes (Ok ns) → ms ≡ ns }
+    ensures not_refused { (place : Place) (bytes : List ℕ) (ms : List Marked) (e : MarksRefusal)
+        → JudgesMarks place bytes (Ok ms) → JudgesMarks place bytes (Err e) → ⊥ }
+{
+    captures_are_one();
+    beginnings_agree();
+    frames_are_one();
+    seen_law();
+}
