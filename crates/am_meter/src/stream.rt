@@ -72,8 +72,8 @@ impl Stream {
         name: &str,
         place: Place,
     ) -> Result<Stream, MeterError>
-        ensures streams { IfOk result (λ s. StreamsOn (S.told shelf.old) (S.told shelf.new) name.now s []) }
-        ensures place { IfOk result (λ s. s.place ≡ place) }
+        ensures streams { IfOk result (λ s.
+            StreamsOn (S.told shelf.old) (S.told shelf.new) name.now place s []) }
         ensures refused { IfErr result (λ e.
             WhyNotStreamed place (S.told shelf.old) (S.told shelf.new) name.now e) }
         ensures missing { IsErrOf result (File file.Missing) →
