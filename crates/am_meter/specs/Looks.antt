@@ -44,5 +44,5 @@ pub record PassesOver (place : Place) (old now : Reading) (before mid : Option T
   pub goes_on : now.over ≡ false
   pub passes : old.decoded.summary.count ≤ now.decoded.summary.count
   pub streams : (first : Option Told) (name : List ℕ) (ms : List MarkedRecord)
-      → StreamsOn first before name (record { capture = old; place = place; over = false }) ms
-      → StreamsOn first mid name (record { capture = now; place = place; over = false }) ms
+      → StreamsOn first before name place (record { capture = old; place = place; over = false }) ms
+      → StreamsOn first mid name place (record { capture = now; place = place; over = false }) ms

@@ -72,8 +72,8 @@ impl Stream {
         name: &str,
         place: Place,
     ) -> Result<Stream, MeterError>
-        ensures streams { IfOk result (λ s. StreamsOn (S.told shelf.old) (S.told shelf.new) name.now s []) }
-        ensures place { IfOk result (λ s. s.place ≡ place) }
+        ensures streams { IfOk result (λ s.
+            StreamsOn (S.told shelf.old) (S.told shelf.new) name.now place s []) }
         ensures refused { IfErr result (λ e.
             WhyNotStreamed place (S.told shelf.old) (S.told shelf.new) name.now e) }
         ensures missing { IsErrOf result (File file.Missing) →
@@ -108,8 +108,6 @@ impl Stream {
         ensures stopped { IfErr result (λ e.
             StopsStream self.old (S.told shelf.old) (S.told shelf.new) e) }
         ensures may_stop { IfErr result (λ e. MayStop self.old e) }
-
-        ensures place { self.new.place ≡ self.old.place }
 
         // Nothing may be asked behind the end or an error, on whatever shelf.
         ensures over { IfOk result (λ o. IfNone o (self.new.over ≡ true)) }

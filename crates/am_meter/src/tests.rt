@@ -96,23 +96,21 @@ fn marked_records_are_given_in_order(rt: HostRuntime) -> Result<(), Fail> {
     ];
     let mut shelf = shelf_of(alloc, &up, b"", 0)?;
     let marks = marks_of(alloc, &mut shelf, Place::HopByHop)?;
-    let mut number = 0;
-    for (marked, (seconds, loss, delay)) in marks.iter().zip([
-        (1, false, true),
-        (2, false, false),
-        (11, true, true),
-        (12, true, false),
-        (13, true, false),
-        (21, false, true),
+    assert_eq!(rt; marks.len(), 6);
+    for (marked, (number, reading, loss, delay)) in marks.iter().zip([
+        (1, 1_000_000_000, false, true),
+        (2, 2_000_000_000, false, false),
+        (3, 11_000_000_000, true, true),
+        (4, 12_000_000_000, true, false),
+        (5, 13_000_000_000, true, false),
+        (6, 21_000_000_000, false, true),
     ]) {
-        number += 1;
         assert_eq!(rt; marked.number, number);
-        assert_eq!(rt; marked.reading, seconds * 1_000_000_000);
+        assert_eq!(rt; marked.reading, reading);
         assert_eq!(rt; marked.mark.flow(), 0x12345);
         assert_eq!(rt; marked.mark.loss(), loss);
         assert_eq!(rt; marked.mark.delay(), delay);
     }
-    assert_eq!(rt; number, 6);
     let none = marks_of(alloc, &mut shelf, Place::Destination)?;
     assert!(rt; none.is_empty(), "there is no Destination Options header");
     Ok(())
