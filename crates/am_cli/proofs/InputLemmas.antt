@@ -5,13 +5,12 @@ use Rattle.std.proofs.lemmas.List.{append-nil}
 use Rattle.am_base.specs.Counts.{Rose}
 use Rattle.am_base.specs.Shelves.{Told, IsAbsent, IsAtEnd}
 use Rattle.am_base.specs.Files.{OnFile, HasFile, IsWholeRead}
-use Rattle.am_ip6.specs.declared.marks.Place.{Place}
 use Rattle.am_ip6.specs.declared.marks.Place.TheVariants.{HopByHop}
 use Rattle.am_pcap.specs.Packets.{Packet}
 use Rattle.am_pcap.specs.CaptureFiles.{Begins, BeginsWith, IsWholeCapture}
 use Rattle.am_pcap.specs.declared.head.Head.{Head}
 use Rattle.am_pcap.specs.declared.capture.FileError.TheVariants as file
-use Rattle.am_meter.specs.Marks.{MarksRefusal, JudgesMarks, RefusesMarks}
+use Rattle.am_meter.specs.Marks.{MarksRefusal, RefusesMarks}
 use Rattle.am_meter.specs.Marks.MarksRefusal.{Long, BadCapture as RefusedMarks, HeadersCut as CutMarks}
 use Rattle.am_meter.specs.Streaming.{Streaming}
 use Rattle.am_meter.specs.Streams.{StreamsOn, EndsStream, StopsStream, WhyStreamStopped, WhyNotStreamed}
@@ -117,47 +116,37 @@ stream-not-opened-stops before after name e answer why missing failed is =
     stop-answer before after name (JudgesCapture HopByHop) (stream_answer name e) answer (not-streamed before after name e why missing failed) is
 
 not-streamed-on :
-    (before now after : Inputs) (name : List ℕ) (place : Place) (ms : List Marked) (e : MeterError)
-    → place ≡ HopByHop
-    → WhyStreamStopped place before.told after.told name ms e
+    (before now after : Inputs) (name : List ℕ) (ms : List Marked) (e : MeterError)
+    → WhyStreamStopped HopByHop before.told after.told name ms e
     → (e ≡ meter.File file.ReadFault → Rose now.faults after.faults) → before.faults ≤ now.faults
     → StopsAt before after name (JudgesCapture HopByHop) (stream_answer name e)
-not-streamed-on before now after name place ms (meter.File file.Missing) is why failed faults = absurd why
-not-streamed-on before now after name place ms (meter.File file.ReadFault) is why failed faults =
+not-streamed-on before now after name ms (meter.File file.Missing) why failed faults = absurd why
+not-streamed-on before now after name ms (meter.File file.ReadFault) why failed faults =
     (refl, rose-later before.faults now.faults after.faults faults (failed refl))
-not-streamed-on before now after name place ms (meter.File file.TooLong) is why failed faults =
-    (refl, marks-refused before.told name Long ms (subst (λ p. OnFile before.told name (λ bytes. RefusesMarks p bytes Long ms)) is why))
-not-streamed-on before now after name place ms (meter.File (file.Bad error)) is why failed faults = (
-  refl,
-  marks-refused before.told name (RefusedMarks error) ms
-      (subst (λ p. OnFile before.told name (λ bytes. RefusesMarks p bytes (RefusedMarks error) ms)) is why),
-)
-not-streamed-on before now after name place ms (meter.File file.Memory) is why failed faults = absurd why
-not-streamed-on before now after name place ms (meter.HeadersCut number) is why failed faults = (
-  refl,
-  marks-refused before.told name (CutMarks number) ms
-      (subst (λ p. OnFile before.told name (λ bytes. RefusesMarks p bytes (CutMarks number) ms)) is why),
-)
+not-streamed-on before now after name ms (meter.File file.TooLong) why failed faults = (refl, marks-refused before.told name Long ms why)
+not-streamed-on before now after name ms (meter.File (file.Bad error)) why failed faults = (refl, marks-refused before.told name (RefusedMarks error) ms why)
+not-streamed-on before now after name ms (meter.File file.Memory) why failed faults = absurd why
+not-streamed-on before now after name ms (meter.HeadersCut number) why failed faults = (refl, marks-refused before.told name (CutMarks number) ms why)
 
 -- why there is no next marked record is a stop at its file
 pub stream-stops :
     (before now after : Inputs) (name : List ℕ) (s : Streaming) (ms : List Marked) (e : MeterError) (answer : Answer)
-    → StreamsOn before.told now.told name s ms → StopsStream s now.told after.told e → s.place ≡ HopByHop
+    → StreamsOn before.told now.told name HopByHop s ms → StopsStream s now.told after.told e
     → (e ≡ meter.File file.ReadFault → Rose now.faults after.faults) → before.faults ≤ now.faults
     → IsAnswer (stream_answer name e) answer
     → StopsAt before after name (JudgesCapture HopByHop) answer
-stream-stops before now after name s ms e answer on stops is failed faults answers =
+stream-stops before now after name s ms e answer on stops failed faults answers =
     stop-answer before after name (JudgesCapture HopByHop) (stream_answer name e) answer
-    (not-streamed-on before now after name s.place ms e is (stops before.told name ms on).0 failed faults) answers
+    (not-streamed-on before now after name ms e (stops before.told name HopByHop ms on).0 failed faults) answers
 
 -- the end of a stream is what is taken of its file
 pub stream-taken :
     (before now after : Inputs) (name : List ℕ) (s : Streaming) (ms : List Marked)
-    → StreamsOn before.told now.told name s ms → EndsStream s now.told after.told → s.place ≡ HopByHop
+    → StreamsOn before.told now.told name HopByHop s ms → EndsStream s now.told after.told
     → before.faults ≤ now.faults → before.missed ≤ now.missed → now.faults ≤ after.faults → now.missed ≤ after.missed
     → Judged before.told name (JudgesCapture HopByHop) (Ok ms) × Follows before after
-stream-taken before now after name s ms on ends is faults missed faults_stay missed_stay =
-    let e = ends before.told name ms on in (
-      subst (λ p. OnFile before.told name (λ bytes. JudgesMarks p bytes (Ok ms))) is e.0,
+stream-taken before now after name s ms on ends faults missed faults_stay missed_stay =
+    let e = ends before.told name HopByHop ms on in (
+      e.0,
       record { kept = e.2; faults = omega (arith, faults, faults_stay); missed = omega (arith, missed, missed_stay); at_end = e.1 },
     )

@@ -1,13 +1,12 @@
 -- A stream that goes on: what each record of its capture makes of it, and what the end and an error say.
 use Rattle.std.proofs.Common.{arith, refl, sym, ap, subst, ◌∙◌, ◌≡◌, ◌≢◌, ℕ, ◌+◌, ◌≤◌, ◌^◌, Bool, false, List, [], ◌∷◌, ◌++◌, length, Option, Some, None, inl, inr}
-use Rattle.std.specs.Prelude.{Ok, Err, Result, IfOk, IfSome}
+use Rattle.std.specs.Prelude.{Ok, Result, IfOk, IfSome}
 use Rattle.std.proofs.lemmas.List.{length-append, append-nil}
-use Rattle.am_base.specs.Shelves.{Told, IsAtEnd}
-use Rattle.am_base.specs.Files.{OnFile, KeepsFiles}
+use Rattle.am_base.specs.Shelves.{Told}
+use Rattle.am_base.specs.Files.{OnFile}
 use Rattle.am_ip6.specs.Marks.{Seen}
 use Rattle.am_ip6.specs.Marks.Seen.{Marks, NoMark, CutOff}
 use Rattle.am_ip6.specs.declared.marks.Place.{Place}
-use Rattle.am_pcap.specs.Packets.{Packet}
 use Rattle.am_pcap.specs.Readings.{Reading}
 use Rattle.am_pcap.specs.CaptureFiles.{ReadsOn, BeginsWith, IsWholeCapture, WhyStopped, IsRefusedBehind, IsLong, WhyNotOpened}
 use Rattle.am_pcap.specs.Answers.{GivesRecord, GivesError, EndsReading, StopsReading}
@@ -18,7 +17,7 @@ use Rattle.am_pcap.specs.declared.capture.FileError.{FileError}
 use Rattle.am_pcap.specs.declared.capture.FileError.TheVariants.{Missing, ReadFault, TooLong, Bad, Memory}
 use Rattle.am_meter.specs.Marks.{IsSeenIn, AreMarked, JudgesMarks, RefusesMarks}
 use Rattle.am_meter.specs.Marks.MarksRefusal.{Long, BadCapture, HeadersCut as CutAt}
-use Rattle.am_meter.specs.Streaming.{Streaming}
+use Rattle.am_meter.specs.Streaming.{Streaming, stream_of}
 use Rattle.am_meter.specs.Streams.{StreamsOn, GivesMarked, EndsStream, StopsStream, WhyStreamStopped, MayStop, WhyNotStreamed}
 use Rattle.am_meter.specs.Looks.{LooksAt, PassesOver, ShowsAs, marked_of}
 use Rattle.am_meter.specs.declared.stream.Marked.{Marked}
@@ -42,10 +41,6 @@ file-both None name P Q R f p q = tt
 file-both (Some t) name P Q R f p q =
     let same : q.0 ≡ p.0 = cc (p.1, q.1) in
     (p.0, p.1, f p.0 p.2 (subst Q same q.2))
-
--- a stream whose capture is this
-abbrev pub stream_of : Place → Reading → Streaming
-stream_of place c = record { capture = c; place = place; over = false }
 
 -- one more record was read, whose headers aren't cut
 goes-on :

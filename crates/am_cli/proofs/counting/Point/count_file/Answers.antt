@@ -1,5 +1,6 @@
 -- The marked records that were given so far, and one more.
 use Rattle.std.proofs.Common.{arith, sym, ap, ◌∙◌, ◌+◌, ◌++◌, ◌∷◌, [], Err}
+use Rattle.am_ip6.specs.declared.marks.Place.TheVariants.{HopByHop}
 use Rattle.am_cli.specs.Chains.{inputs}
 use Rattle.am_cli.specs.Shown.{stop_shown}
 use Rattle.am_cli.specs.Counting.{one_in}
@@ -22,7 +23,7 @@ returns-in-Ok-None-clause-takes g c =
     (inputs (g.S.Shelf.told c.args.shelf.now) (g.S.Shelf.faults c.args.shelf.now) (g.S.Shelf.missed c.args.shelf.now))
     (inputs (g.S.Shelf.told c.records.shelf) (g.S.Shelf.faults c.records.shelf) (g.S.Shelf.missed c.records.shelf))
     (inputs (g.S.Shelf.told c.next.new.shelf) (g.S.Shelf.faults c.next.new.shelf) (g.S.Shelf.missed c.next.new.shelf))
-    c.args.name.now c.records.stream c.records.invariant.marked c.records.invariant.on ended c.records.invariant.place
+    c.args.name.now c.records.stream c.records.invariant.marked c.records.invariant.on ended
     c.records.invariant.faults_stay c.records.invariant.missed_stay c.in-Ok-None.ensures.faults_stay c.in-Ok-None.ensures.missed_stay in
     (c.records.invariant.marked, taken.0, taken.1, c.records.invariant.here)
 
@@ -33,7 +34,7 @@ returns-in-Err-next-clause-takes g c =
     (inputs (g.S.Shelf.told c.records.shelf) (g.S.Shelf.faults c.records.shelf) (g.S.Shelf.missed c.records.shelf))
     (inputs (g.S.Shelf.told c.next.new.shelf) (g.S.Shelf.faults c.next.new.shelf) (g.S.Shelf.missed c.next.new.shelf))
     c.args.name.now c.records.stream c.records.invariant.marked c.in-Err-next.error (stop_shown c.of_stream-in-Err-next.result)
-    c.records.invariant.on c.in-Err-next.ensures.stopped c.records.invariant.place
+    c.records.invariant.on c.in-Err-next.ensures.stopped
     (λ e. c.in-Err-next.ensures.read_fault (ap (λ x. Err x) e)) c.records.invariant.faults_stay c.of_stream-in-Err-next.ensures
 
 pub count-requires-clause-fits : goal.count-requires-clause-fits
@@ -53,8 +54,7 @@ records-preserved g c =
     let gives = rw c.in-Ok-Some.field-0-is at c.in-Ok-Some.ensures.gives in
     record {
       marked = c.records.invariant.marked ++ c.in-Ok-Some.marked ∷ [];
-      on = gives.streams (g.S.Shelf.told c.args.shelf.now) c.args.name.now c.records.invariant.marked c.records.invariant.on;
-      place = c.in-Ok-Some.ensures.place ∙ c.records.invariant.place;
+      on = gives.streams (g.S.Shelf.told c.args.shelf.now) c.args.name.now HopByHop c.records.invariant.marked c.records.invariant.on;
       here = λ b. c.in-Ok-count.ensures.here b
           ∙ ap (λ n. n + one_in c.args.self.now.timing c.args.self.now.flow c.args.self.now.shift b c.in-Ok-Some.marked) (c.records.invariant.here b)
           ∙ sym (count_in-append c.args.self.now.timing c.args.self.now.flow c.args.self.now.shift c.records.invariant.marked c.in-Ok-Some.marked b);

@@ -11,8 +11,7 @@ use Rattle.am_cli.proofs.counting.Point.count_file.Given as goal
 abbrev pub invariant-records : goal.invariant-records
 invariant-records g l = record {
   marked : List Marked;
-  on : StreamsOn (g.S.Shelf.told l.fn.shelf) (g.S.Shelf.told l.shelf) l.name l.stream marked;
-  place : l.stream.place ≡ HopByHop;
+  on : StreamsOn (g.S.Shelf.told l.fn.shelf) (g.S.Shelf.told l.shelf) l.name HopByHop l.stream marked;
   here : (b : ℕ) → tally l.table l.self.side b ≡ count_in l.self.timing l.self.flow l.self.shift marked b;
   there : (b : ℕ) → tally l.table (other l.self.side) b ≡ tally l.fn.table (other l.self.side) b;
   counted : IsCounted l.table;
