@@ -1,5 +1,5 @@
 -- What a decoder stands for after it took bytes, from what became of its parts.
-use Rattle.std.proofs.Common.{arith, refl, sym, ap, subst, ◌∙◌, ◌≡◌, ℕ, ◌+◌, ◌<◌, ◌≤◌, Bool, true, false, List, [], cond, ◌∷◌, ◌++◌, length, take, drop, Option, Some, None, Ok, Err, append_assoc, ◌⊎◌, inl, inr, ◌-◌, ◌*◌}
+use Rattle.std.proofs.Common.{arith, refl, sym, ap, subst, ◌∙◌, ◌≡◌, ℕ, ◌+◌, ◌<◌, ◌≤◌, Bool, true, false, List, [], cond, ◌∷◌, ◌++◌, length, take, drop, Option, Some, None, append_assoc, ◌⊎◌, inl, inr, ◌-◌, ◌*◌}
 use Rattle.std.proofs.lemmas.List.{length-append, length-take, length-drop, append-nil}
 use Rattle.std.proofs.lemmas.Bool.{cases_lt}
 use Rattle.std.proofs.Math.Seq.{take-add}

@@ -1,5 +1,5 @@
 -- A file header is read back in each of its twelve forms.
-use Rattle.std.proofs.Common.{refl, sym, ap, subst, ◌∙◌, ◌≡◌, ℕ, Bool, true, false, List, [], ◌∷◌, Ok, cond, get_or}
+use Rattle.std.proofs.Common.{refl, sym, ap, subst, ◌∙◌, ◌≡◌, ℕ, Bool, true, false, List, [], ◌∷◌, cond, get_or}
 use Rattle.std.specs.Int.{w32, to_be_bytes, to_le_bytes}
 use Rattle.am_pcap.specs.Packets.{word}
 use Rattle.am_pcap.specs.Heads.{half, IsHead, magic_of, link_number}

@@ -5,7 +5,7 @@ use Rattle.std.proofs.lemmas.Bool.{cases_lt}
 use Rattle.std.specs.Prelude.{IsSome, min}
 use Rattle.am_base.specs.Shelves.{Told, Takes, Opens}
 use Rattle.am_pcap.specs.Packets.{Packet, IsWhole, HoldsPackets}
-use Rattle.am_pcap.specs.Heads.{IsHead, IsRefusedHead}
+use Rattle.am_pcap.specs.Heads.{IsRefusedHead}
 use Rattle.am_pcap.specs.Captures.{Summary, HasSummary, IsTooLong}
 use Rattle.am_pcap.specs.Decoded.{Decoded, Took, Refused, Counts, nothing_taken}
 use Rattle.am_pcap.specs.Readings.{IsCut, most_read}

@@ -1,14 +1,16 @@
 -- Of one list of bytes: what it begins with, whether it is a capture, and how it is refused fit together.
-use Rattle.std.proofs.Common.{arith, refl, sym, ap, subst, ◌∙◌, ◌≡◌, ℕ, ◌+◌, ◌≤◌, Bool, List, [], ◌∷◌, ◌++◌, length, take, drop, Option, Some, None, Err, ◌⊎◌, inl, inr}
-use Rattle.std.proofs.lemmas.List.{append-nil}
+use Rattle.std.proofs.Common.{arith, refl, sym, ap, subst, ◌∙◌, ◌≡◌, ℕ, ◌+◌, Bool, List, [], ◌∷◌, ◌++◌, length, take, drop, Some, None, Err, ◌⊎◌, inl, inr}
+use Rattle.std.proofs.lemmas.List.{append-nil, take-append-drop, length-take}
 use Rattle.am_pcap.specs.Packets.{Packet, IsWhole, HoldsPackets, behind_first}
-use Rattle.am_pcap.specs.Captures.{Summary, HasSummary, IsCapture, IsTooLong, IsRefused, IsRefusedAfter, HasBadRecord, HasRecords, WhyRefused}
+use Rattle.am_pcap.specs.Heads.{IsRefusedHead}
+use Rattle.am_pcap.specs.Captures.{Summary, HasSummary, IsCapture, IsTooLong, IsRefusedAfter, HasBadRecord, WhyRefused}
 use Rattle.am_pcap.specs.Readings.{IsCut}
-use Rattle.am_pcap.specs.CaptureFiles.{Begins, BeginsWith, HasHead, IsRefusedIn, IsRefusedHeader, IsFrontOf}
+use Rattle.am_pcap.specs.CaptureFiles.{BeginsWith, HasHead, IsRefusedIn, IsRefusedHeader, IsFrontOf}
 use Rattle.am_pcap.specs.declared.refusal.CapError.{CapError}
 use Rattle.am_pcap.specs.declared.head.Head.{Head}
 use Rattle.am_pcap.proofs.Judged.{head-unique, head-not_refused}
-use Rattle.am_pcap.proofs.Refusals.{refused-after, after-refused, capture-not_refused, cut-or_not}
+use Rattle.am_pcap.proofs.Steps.{take-whole}
+use Rattle.am_pcap.proofs.Refusals.{head-not-cut, refused-after, after-refused, capture-not_refused, cut-or_not}
 use Rattle.am_pcap.proofs.Summaries.{summary-unique}
 use Rattle.am_pcap.proofs.Verdicts.{verdict-unique, bad_record-summary}
 
@@ -75,6 +77,28 @@ refused-whole bytes e qs r = elim (cut-or_not e) [
       let s = after-error e r.front qs r.refused stable in
       subst (λ x. IsRefusedAfter e x qs) (sym r.split) (refused-after r.front qs s.0 e s.1 s.2 r.rest)
 ]
+
+-- a file header that is refused is a refusal behind no packets
+pub header-refused : (bytes : List ℕ) (e : CapError) → IsRefusedHeader bytes e → IsRefusedIn bytes e []
+header-refused bytes e (inl r) =
+    let long : length (take 24 bytes) ≡ 24 = omega (arith, length-take 24 bytes, r.0) in
+    let same : take 24 (take 24 bytes) ≡ take 24 bytes = take-whole 24 (take 24 bytes) long in
+    record {
+      front = take 24 bytes;
+      rest = drop 24 bytes;
+      split = sym (take-append-drop 24 bytes);
+      short = omega (arith, long);
+      all = λ cut. absurd (head-not-cut (take 24 bytes) e r.1 cut);
+      refused = inr (inl (omega (arith, long), subst (λ x. IsRefusedHead e x) (sym same) r.1, refl));
+    }
+header-refused bytes e (inr r) = record {
+  front = bytes;
+  rest = [];
+  split = sym (append-nil bytes);
+  short = omega (arith, r.0);
+  all = λ cut. refl;
+  refused = inl (r.0, r.1, refl);
+}
 
 -- a capture isn't refused
 pub capture-not_refused_in :

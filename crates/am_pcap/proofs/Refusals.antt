@@ -104,7 +104,7 @@ pub refused-after :
 refused-after bytes ps s e h is rest =
     after-parts bytes ps s.head s.count s.unfinished s.taken e rest (with-error bytes ps s (Some e) is h)
 
-head-not-cut : (bytes : List ℕ) (e : CapError) → IsRefusedHead e bytes → IsCut e → ⊥
+pub head-not-cut : (bytes : List ℕ) (e : CapError) → IsRefusedHead e bytes → IsCut e → ⊥
 head-not-cut bytes (CutFile number) is cut = is
 head-not-cut bytes _ is cut = cut
 

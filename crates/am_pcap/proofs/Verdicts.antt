@@ -1,7 +1,7 @@
 -- The verdict on a summary is what the bytes are: a capture, or refused for one reason.
 use Rattle.std.proofs.Common.{arith, refl, sym, ap, ◌∙◌, ◌≡◌, ℕ, ◌+◌, ◌≤◌, List, [], ◌∷◌, length, take, drop, Option, Some, None, Result, Ok, Err, inl, inr}
 use Rattle.am_pcap.specs.Packets.{Packet, IsWhole, HoldsPackets}
-use Rattle.am_pcap.specs.Heads.{IsHead, IsRefusedHead}
+use Rattle.am_pcap.specs.Heads.{IsHead}
 use Rattle.am_pcap.specs.Captures.{Summary, HasSummary, IsTooLong, IsVerdict, WhyRefused, verdict, unless_cut, unless_refused}
 use Rattle.am_pcap.specs.Decoded.{Decoded, StandsFor, nothing_taken}
 use Rattle.am_pcap.specs.declared.refusal.CapError.{CapError}

@@ -33,6 +33,10 @@ pub record StandsFor (d : Decoded) (bytes : List ℕ) : Type 0 where
 abbrev pub Goes : Decoded → Decoded → List ℕ → Type 0
 Goes old new more = (bytes : List ℕ) → StandsFor old bytes → StandsFor new (bytes ++ more)
 
+-- the bytes that were taken, with the piece behind them, can be counted
+abbrev pub CanTake : Decoded → List ℕ → Type 0
+CanTake d piece = d.summary.taken + length piece ≤ 2 ^ 63
+
 -- it took the first n bytes of the piece
 pub record Took (old new : Decoded) (piece : List ℕ) (n : ℕ) : Type 0 where
   pub within : n ≤ length piece

@@ -2,7 +2,7 @@
 ghost use Rattle.std.specs.Prelude.{◌≡◌, ◌+◌, ◌-◌, ◌*◌, ◌<◌, ◌≤◌, ◌^◌, ◌++◌, ℕ, List, [], length, take, min, Some, None, Ok, Err, IsSome, IsTrue, ◌↔◌, IfOk, IfErr, OnOk, OnSome, MatchOption, vec_len, vec_capacity, cond};
 ghost use Rattle.std.specs.Borrow.{sem};
 ghost use Rattle.am_pcap.specs.Captures.{verdict, IsVerdict};
-ghost use Rattle.am_pcap.specs.Decoded.{Decoded, nothing_taken, after_take, Took, Refused, Counts, Goes, StandsFor, header_length};
+ghost use Rattle.am_pcap.specs.Decoded.{Decoded, nothing_taken, after_take, CanTake, Took, Refused, Counts, Goes, StandsFor, header_length};
 ghost use Rattle.am_pcap.specs.Packets.{word, IsWhole, first_packet};
 ghost use Rattle.am_pcap.specs.Shown.{packet_shown};
 ghost use Rattle.am_pcap.specs.declared.refusal.CapError.{CapError};
@@ -78,7 +78,7 @@ impl Decoder {
     /// where one waited before. An error comes in the call that takes the last byte of the header that is refused, and
     /// from then on in each call.
     pub fn feed(&mut self, piece: &[u8]) -> Result<usize, CapError>
-        requires { self.old.summary.taken + length piece.now ≤ 2 ^ 63 }
+        requires { CanTake self.old piece.now }
         ensures took { IfOk result (λ n. Took self.old self.new piece.now n) }
         ensures clean { OnOk result (self.new.summary.error ≡ None) }
         ensures all { IfOk result (λ n. n < length piece.now → IsSome self.new.waiting) }
@@ -118,7 +118,7 @@ impl Decoder {
 
     // Takes bytes of the file header.
     fn feed_head(&mut self, piece: &[u8]) -> Result<usize, CapError>
-        requires room { self.old.summary.taken + length piece.now ≤ 2 ^ 63 }
+        requires room { CanTake self.old piece.now }
         requires head { self.old.summary.head ≡ None }
         requires clean { self.old.summary.error ≡ None }
         ensures took { IfOk result (λ n. Took self.old self.new piece.now n) }
@@ -148,7 +148,7 @@ impl Decoder {
 
     // Takes bytes of a record.
     fn feed_record(&mut self, piece: &[u8]) -> Result<usize, CapError>
-        requires room { self.old.summary.taken + length piece.now ≤ 2 ^ 63 }
+        requires room { CanTake self.old piece.now }
         requires head { IsSome self.old.summary.head }
         requires clean { self.old.summary.error ≡ None }
         requires waiting { self.old.waiting ≡ None }

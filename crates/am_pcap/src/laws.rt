@@ -1,5 +1,5 @@
 //! What holds of captures and of what their bytes begin with: laws, each the contract of a function that does nothing.
-ghost use Rattle.std.specs.Prelude.{◌≡◌, ◌++◌, ◌⊎◌, ℕ, List, Bool};
+ghost use Rattle.std.specs.Prelude.{◌≡◌, ◌++◌, ◌⊎◌, ℕ, List, [], Bool};
 ghost use Rattle.am_pcap.specs.Packets.{Packet};
 ghost use Rattle.am_pcap.specs.Captures.{IsCapture};
 ghost use Rattle.am_pcap.specs.CaptureFiles.{BeginsWith, HasHead, IsFrontOf, IsRefusedHeader, IsRefusedIn};
@@ -10,7 +10,7 @@ ghost use Rattle.am_pcap.specs.declared.head.Head.{Head};
 ghost use Rattle.am_pcap.specs.declared.refusal.CapError.{CapError};
 
 /// Bytes that are a capture have one file header and one list of packets, and are not refused. Bytes that are refused
-/// are so for one reason, behind one list of packets.
+/// are so for one reason, behind one list of packets, and behind none where the file header is refused.
 pub fn captures_are_one()
     ensures one { (bytes : List ℕ) (h k : Head) (ps qs : List Packet)
         → IsCapture bytes h ps → IsCapture bytes k qs → (h ≡ k) × (ps ≡ qs) }
@@ -18,6 +18,7 @@ pub fn captures_are_one()
         → IsCapture bytes h ps → IsRefusedIn bytes e qs → ⊥ }
     ensures refused_once { (bytes : List ℕ) (d e : CapError) (ps qs : List Packet)
         → IsRefusedIn bytes d ps → IsRefusedIn bytes e qs → (d ≡ e) × (ps ≡ qs) }
+    ensures header { (bytes : List ℕ) (e : CapError) → IsRefusedHeader bytes e → IsRefusedIn bytes e [] }
 {}
 
 /// What bytes begin with: their file header is one, and is not refused. A capture's packets, and those before what is

@@ -1,5 +1,6 @@
-ghost use Rattle.std.specs.Prelude.{◌≡◌, ◌≤◌, ◌↔◌, length, IsTrue};
+ghost use Rattle.std.specs.Prelude.{◌≡◌};
 ghost use Rattle.am_pcap.specs.Packets.{reading_of};
+ghost use Rattle.am_pcap.specs.CaptureFiles.{is_whole};
 
 /// How the numbers of a capture are written.
 #[derive(Clone, Copy, Debug, PartialEq, Eq)]
@@ -39,7 +40,7 @@ impl Record<'_> {
 
     /// Whether all bytes of the packet were captured.
     pub fn whole(&self) -> bool
-        ensures { IsTrue result ↔ (self.now.original ≤ length self.now.bytes.now) }
+        ensures { result ≡ is_whole (packet_shown self.now) }
     {
         self.original as usize <= self.bytes.len()
     }

@@ -3,6 +3,7 @@ ghost use Rattle.std.specs.Prelude.{◌≡◌, ◌+◌, ◌*◌, ◌<◌, ◌≤
 ghost use Rattle.am_base.specs.Counts.{Rose};
 ghost use Rattle.am_base.specs.Shelves.{Takes, IsAtEnd};
 ghost use Rattle.am_pcap.specs.Captures.{HasSummary};
+ghost use Rattle.am_pcap.specs.Decoded.{CanTake};
 ghost use Rattle.am_pcap.specs.Readings.{most_read};
 ghost use Rattle.am_pcap.specs.Answers.{GivesError};
 ghost use Rattle.am_pcap.specs.Seeking.{InOrder, Drains, DrainsTo, RefillFails, HeadUnread, HeadFed, HeadBad, HeadFound, HeadFails, HeadSteps, Steps, Sought, reading_of};
@@ -182,7 +183,7 @@ fn seek_step<S: Shelf>(
 fn drain(decoder: &mut Decoder, held: &mut Held) -> Result<(), CapError>
     requires clean { decoder.old.summary.error ≡ None }
     requires none_waits { decoder.old.waiting ≡ None }
-    requires room { decoder.old.summary.taken + length held.old ≤ 2 ^ 63 }
+    requires room { CanTake decoder.old held.old }
     requires head { IsSome decoder.old.summary.head }
     ensures drains { OnOk result (Drains decoder.old held.old decoder.new held.new) }
     ensures refused { IfErr result (λ e. DrainsTo decoder.old held.old e) }
