@@ -2,6 +2,8 @@ pub mod Walk
 pub mod Listing
 pub mod Gap
 pub mod Bytes
+pub mod Alike
 pub mod Slash
 pub mod Runs
 pub mod ReadBack
+pub mod TextAlone

@@ -5,7 +5,7 @@ use Rattle.am_addr.specs.Text.{IsDigit, Digits, IsGroup, IsList}
 use Rattle.am_addr.specs.Walk.{GoesOn, Reads}
 
 -- a digit is no `:`
-digit_no_colon : (c d : ℕ) → c ≡ 58 → IsDigit c d → ⊥
+pub digit_no_colon : (c d : ℕ) → c ≡ 58 → IsDigit c d → ⊥
 digit_no_colon c d e (inl p) = omega (arith, p.0, p.1)
 digit_no_colon c d e (inr p) = elim p.2 [ inl a ↦ omega (arith, p.0, p.1, a) | inr a ↦ omega (arith, p.0, p.1, a) ]
 
@@ -14,7 +14,7 @@ pub digit_below : (c d : ℕ) → IsDigit c d → d < 16
 digit_below c d (inl p) = omega (arith, p.0)
 digit_below c d (inr p) = p.1
 
-one_digit : (c d e : ℕ) → IsDigit c d → IsDigit c e → d ≡ e
+pub one_digit : (c d e : ℕ) → IsDigit c d → IsDigit c e → d ≡ e
 one_digit c d e (inl p) (inl q) = omega (arith, p.0, p.1, q.0, q.1)
 one_digit c d e (inl p) (inr q) = elim q.2 [ inl a ↦ absurd (omega (arith, p.0, p.1, q.0, q.1, a)) | inr a ↦ absurd (omega (arith, p.0, p.1, q.0, q.1, a)) ]
 one_digit c d e (inr p) (inl q) = elim p.2 [ inl a ↦ absurd (omega (arith, p.0, p.1, q.0, q.1, a)) | inr a ↦ absurd (omega (arith, p.0, p.1, q.0, q.1, a)) ]

@@ -63,7 +63,7 @@ impl Prefix {
     pub fn holds(&self, addr: &Addr) -> bool
         ensures { IsTrue result ↔ BeginAlike self.now.length addr.now.0 self.now.bytes }
     {
-        front_of(addr, self.length) == self.base
+        begin_alike(&addr.0, &self.base.0, self.length)
     }
 
     /// The first address of the prefix: its bits, and 0 for each further one.
@@ -81,6 +81,25 @@ impl Prefix {
     {
         self.length
     }
+}
+
+// Whether the first bits, so many, are the same: whole bytes, one after another up to the first that differs,
+// and then the bits that count of the byte that is cut.
+fn begin_alike(xs: &[u8; 16], ys: &[u8; 16], length: u8) -> bool
+    ensures { IsTrue result ↔ BeginAlike length xs.now ys.now }
+{
+    let mut left = length;
+    for i in 0..16 {
+        let (x, y) = (xs[i], ys[i]);
+        if left < 8 {
+            return keep(x, left) == keep(y, left);
+        }
+        if x != y {
+            return false;
+        }
+        left -= 8;
+    }
+    true
 }
 
 // The address with each bit past this many set to 0.
@@ -132,7 +151,8 @@ fn length_of(text: &[u8]) -> Option<u8>
 // The number with one more digit. None where that is none, and where the number passes 128.
 fn with_digit(before: u8, byte: u8) -> Option<u8>
     requires { before ≤ 128 }
-    ensures goes { IfSome result (λ n. (n ≤ 128) × ((d : ℕ) × (d < 10) × (byte ≡ 48 + d) × (n ≡ before * 10 + d))) }
+    ensures small { IfSome result (λ n. n ≤ 128) }
+    ensures goes { IfSome result (λ n. (d : ℕ) × (d < 10) × (byte ≡ 48 + d) × (n ≡ before * 10 + d)) }
     ensures none { IfNone result ((d : ℕ) → d < 10 → byte ≡ 48 + d → 128 < before * 10 + d) }
 {
     if !byte.is_ascii_digit() {

@@ -1,16 +1,17 @@
 -- What a file's parts give of the domain that is made of them.
-use Rattle.std.proofs.Common.{◌≡◌, ◌≢◌, ℕ, ◌-◌, ◌*◌, ◌<◌, ◌≤◌, List, [], ◌∷◌, length, get_or, zero, suc, Option, subst, sym, ap, ◌∙◌, inl, inr, arith, ◌↔◌}
+use Rattle.std.proofs.Common.{◌≡◌, ◌≢◌, ℕ, ◌+◌, ◌-◌, ◌*◌, ◌^◌, ◌<◌, ◌≤◌, Bool, true, false, if◌then◌else◌, IsTrue, List, [], ◌∷◌, length, get_or, zero, suc, Option, subst, sym, ap, ◌∙◌, inl, inr, arith, ◌↔◌}
 use Rattle.std.proofs.lemmas.Bool.{cases_order}
+use Rattle.std.proofs.lemmas.Bool.Decides.{nat_tests}
 use Rattle.std.proofs.lemmas.Slice.Zip.{AllZip-long}
 use Rattle.std.specs.List.{AllZip}
-use Rattle.am_clock.specs.Times.{Times, IsTiming}
+use Rattle.am_clock.specs.Times.{Times, half, IsTiming, in_window}
 use Rattle.toml.specs.Data.{Data, Members}
 use Rattle.am_domain.specs.Values.{FlowValue, NodeValue, LinkValue}
-use Rattle.am_domain.specs.Texts.{IsName, IsFileName, IsWorkersAt}
+use Rattle.am_domain.specs.Texts.{IsName, IsFileName, IsReading, IsWorkersAt}
 use Rattle.am_domain.specs.Tables.{SaysFlow, SaysNode}
 use Rattle.am_domain.specs.Entries.{IsTableOf}
 use Rattle.am_domain.specs.Fields.{FieldsValue, Says}
-use Rattle.am_domain.specs.Network.{IsNumberOf, Joins, SameEnds, HasLink, IsFirstBlock, IsEndBlock, IsReported}
+use Rattle.am_domain.specs.Network.{IsNumberOf, Joins, SameEnds, HasLink, has_links_in, shift_at, IsFirstBlock, IsEndBlock, Covers, IsReported, IsWindowWithin, AreWindowsWithin}
 use Rattle.am_domain.specs.Rules.{Each, AreDistinct, EndsDiffer, SameNodeName}
 use Rattle.am_domain.specs.Domains.{DomainValue, SameNodes, IsLinked, IsMadeOf, IsLawful}
 use Rattle.am_domain.specs.declared.link.Edge.{Edge}
@@ -100,15 +101,48 @@ covered_at_each times nodes edges first end starts ends n = (
   λ all. ((starts n).1 (λ k d within reading inside. (all k d within reading inside).0), (ends n).1 (λ k d within reading inside. (all k d within reading inside).1)),
 )
 
+-- ---- windows
+
+-- a shift is 0 or the least delay
+either_short : (b : Bool) (n : ℕ) → n ≤ 2 ^ 40 → (if b then n else 0) ≤ 2 ^ 40
+either_short true n h = h
+either_short false n h = omega arith
+
+shift_short : (t : Times) (nodes : List NodeValue) (links : List Edge) (k : ℕ) → IsTiming t → shift_at t nodes links k ≤ 2 ^ 40
+shift_short t nodes links k timing = either_short (has_links_in links k) t.delay_min (omega (arith, timing.in_order, timing.near))
+
+-- a window begins with a reading of its own, which is 0 where the window would begin before
+opens : (t : Times) (shift block : ℕ) → IsTiming t → IsTrue (in_window t (block * t.block + shift - half t) shift block)
+opens t shift block timing = grind (arith, nat_tests)
+
+-- a window ends with a reading of its own
+closes : (t : Times) (shift block : ℕ) → IsTiming t → IsTrue (in_window t (block * t.block + t.block + half t + shift - 1) shift block)
+closes t shift block timing = grind (arith, nat_tests)
+
+-- a window of which each reading is in the span lies within it
+window_within : (t : Times) (node : NodeValue) (shift block : ℕ) → IsTiming t → Covers t node shift block → IsWindowWithin t node shift block
+window_within t node shift block timing covers =
+    let from : node.from ≤ block * t.block + shift - half t = (covers _ (opens t shift block timing)).0 in
+    let until : block * t.block + t.block + half t + shift - 1 < node.until = (covers _ (closes t shift block timing)).1 in
+    record { begins = λ some. omega arith; ends = omega arith }
+
+windows_within : (t : Times) (nodes : List NodeValue) (links : List Edge) (block : ℕ) → IsTiming t → IsReported t nodes links block → AreWindowsWithin t nodes links block
+windows_within t nodes links block timing all k d h =
+    window_within t (get_or nodes k d) (shift_at t nodes links k) block timing (all k d h)
+
 -- what is made of a file is lawful
 pub lawful : (ms : Members) (f : FieldsValue) (d : DomainValue) → Says ms f → IsMadeOf f d → d.first < d.end → length d.flows * (d.end - d.first) ≤ 32768 → IsLawful d
 lawful ms f d says made some few =
     let workers = workers_within _ f.marking.workers says.marking.says.workers in
     let kept = made.kept in
+    let timing : IsTiming d.times = subst (λ (t : Times). IsTiming t) (sym made.times) kept.0 in
+    let starts : IsFirstBlock d.times d.nodes d.links d.first = rw (made.times, made.nodes) made.laid_out.starts in
+    let ends : IsEndBlock d.times d.nodes d.links d.end = rw (made.times, made.nodes) made.laid_out.ends in
     record {
-      timing = subst (λ (t : Times). IsTiming t) (sym made.times) kept.0;
+      timing = timing;
       some_worker = omega (arith, workers.0, made.workers);
       few_workers = omega (arith, workers.1, made.workers);
+      some_flow = omega (arith, says.flows.some, AllZip-long (IsTableOf SaysFlow) says.flows.items f.flows says.flows.each, ap length made.flows);
       few_flows = omega (arith, kept.1.1.1.0, ap length made.flows);
       few_nodes = omega (arith, kept.1.0, ap length made.nodes);
       few_links = omega (arith, kept.1.1.0, AllZip-long (Joins f.nodes) f.links d.links made.laid_out.joined);
@@ -116,6 +150,8 @@ lawful ms f d says made some few =
       flow_ids = subst (λ (fs : List FlowValue). Each (λ x. x.id ≤ 1048575) fs) (sym made.flows) (zip_each (IsTableOf SaysFlow) (λ x. x.id ≤ 1048575) (λ x y r. r.says.id.1) says.flows.items f.flows says.flows.each);
       node_names = subst (λ (ns : List NodeValue). Each (λ x. IsName x.name) ns) (sym made.nodes) (zip_each (IsTableOf SaysNode) (λ x. IsName x.name) (λ x y r. r.says.name.1) says.nodes.items f.nodes says.nodes.each);
       captures = subst (λ (ns : List NodeValue). Each (λ x. IsFileName x.capture) ns) (sym made.nodes) (zip_each (IsTableOf SaysNode) (λ x. IsFileName x.capture) (λ x y r. r.says.capture.1) says.nodes.items f.nodes says.nodes.each);
+      from_readings = rw made.nodes (zip_each (IsTableOf SaysNode) (λ x. IsReading x.from) (λ x y r. r.says.from.1) says.nodes.items f.nodes says.nodes.each);
+      until_readings = rw made.nodes (zip_each (IsTableOf SaysNode) (λ x. IsReading x.until) (λ x y r. r.says.until.1) says.nodes.items f.nodes says.nodes.each);
       flow_names_differ = rw made.flows kept.1.1.1.1.0;
       flow_ids_differ = rw made.flows kept.1.1.1.1.1.0;
       node_names_differ = rw made.nodes kept.1.1.1.1.1.1.0;
@@ -123,9 +159,11 @@ lawful ms f d says made some few =
       ends_differ = numbers_differ f.nodes f.links d.links made.laid_out.joined kept.1.1.1.1.1.1.1.1.0;
       links_differ = pairs_differ f.nodes f.links d.links made.laid_out.joined kept.1.1.1.1.1.1.1.1.1.0;
       nodes_linked = rw made.nodes (linked f.nodes f.links d.links made.laid_out.joined kept.1.1.1.1.1.1.0 kept.1.1.1.1.1.1.1.1.1.1.0);
-      reported = covered_at_each d.times d.nodes d.links d.first d.end (rw (made.times, made.nodes) made.laid_out.starts) (rw (made.times, made.nodes) made.laid_out.ends);
+      shifts = λ k h. shift_short d.times d.nodes d.links k timing;
+      reported = covered_at_each d.times d.nodes d.links d.first d.end starts ends;
       some_block = some;
       few_cells = few;
-      starts = rw (made.times, made.nodes) made.laid_out.starts;
-      ends = rw (made.times, made.nodes) made.laid_out.ends;
+      starts = starts;
+      ends = ends;
+      windows = λ block h. windows_within d.times d.nodes d.links block timing ((covered_at_each d.times d.nodes d.links d.first d.end starts ends block).0 h);
     }

@@ -1,82 +1,108 @@
--- The answer to a file's bytes is one alone.
-use Rattle.std.proofs.Common.{◌≡◌, ℕ, List, Option, Result, Ok, Err, subst, sym, ap, ◌∙◌, refl, inl, inr}
+-- Bytes say one domain alone or are refused in one way alone, so what is answered is the only answer.
+use Rattle.std.proofs.Common.{◌≡◌, ◌⊎◌, List, ℕ, Option, Result, Ok, Err, IfOk, IfErr, subst, sym, ap, ◌∙◌, refl, inl, inr}
 use Rattle.std.proofs.lemmas.Option.{same_Some}
 use Rattle.toml.specs.Data.{Members}
-use Rattle.am_domain.specs.Fields.{FieldsValue, Says, IsBadField, TellsField}
-use Rattle.am_domain.specs.Rules.{IsFirstBroken, TellsBroken}
-use Rattle.am_domain.specs.Domains.{DomainValue, IsMadeOf, IsDocument, IsDomain, IsRefusal, IsNoDocument, IsAnswer}
+use Rattle.am_domain.specs.Fields.{FieldsValue, Says, IsBadField}
+use Rattle.am_domain.specs.Rules.{IsFirstBroken}
+use Rattle.am_domain.specs.Domains.{DomainValue, IsMadeOf, IsDocument, IsNoDocument, IsBroken, IsDomainOf, IsDomainRefusal, TellsRefusal, IsAnswer}
 use Rattle.am_domain.specs.declared.error.Part.{Part}
 use Rattle.am_domain.specs.declared.error.Key.{Key}
 use Rattle.am_domain.specs.declared.error.DomainError.{DomainError}
 use Rattle.am_domain.specs.declared.error.DomainError.TheVariants.{NotToml, BadField, Memory}
 use Rattle.am_domain.proofs.FieldAlone.{field_says, field_alone}
 use Rattle.am_domain.proofs.RuleAlone.{broken_alone, made_not, made_alone}
-
--- whatever the bytes are said to be, this is the answer, or want of memory is
-abbrev pub Answers : List ℕ → Result DomainValue DomainError → Type 0
-Answers bytes r =
-    ((ms : Members) (d : DomainValue) → IsDocument bytes ms → IsDomain ms d → IsAnswer r (Ok d))
-    × ((ms : Members) (e : DomainError) → IsDocument bytes ms → IsRefusal ms e → IsAnswer r (Err e))
-    × (IsNoDocument bytes → IsAnswer r (Err NotToml))
+use Rattle.am_domain.proofs.SaysAlone.{OnePrefix, says_same}
 
 -- the document of the bytes is one alone
 doc_same : (bytes : List ℕ) (a b : Members) → IsDocument bytes a → IsDocument bytes b → a ≡ b
 doc_same bytes a b p q = same_Some a b (sym p.parsed ∙ q.parsed)
 
-pub memory_answers : (bytes : List ℕ) → Answers bytes (Err Memory)
-memory_answers bytes = (λ ms d doc h. inl refl, λ ms e doc h. inl refl, λ none. inl refl)
+-- the bytes are a document with this bad field, which the answer tells
+record HasBadField (bytes : List ℕ) (e : DomainError) : Type 0 where
+  members : Members
+  document : IsDocument bytes members
+  part : Part
+  index : Option ℕ
+  key : Option Key
+  told : e ≡ BadField part index key
+  bad : IsBadField members part index key
 
-pub no_document_answers : (bytes : List ℕ) → IsNoDocument bytes → Answers bytes (Err NotToml)
-no_document_answers bytes none = (λ ms d doc h. absurd (none ms doc), λ ms e doc h. absurd (none ms doc), λ n. inr refl)
+-- the bytes are a document that breaks a rule
+record HasBroken (bytes : List ℕ) (e : DomainError) : Type 0 where
+  members : Members
+  document : IsDocument bytes members
+  broken : IsBroken members e
 
-same_refusal : (ms : Members) (p : Part) (i : Option ℕ) (k : Option Key) (e : DomainError) → IsBadField ms p i k → IsRefusal ms e → BadField p i k ≡ e
-same_refusal ms p i k (BadField p' i' k') bad r =
-    let same = field_alone ms p p' i i' k k' bad r in
-    rw (same.0, same.1, same.2) refl
-same_refusal ms p i k _ bad r = absurd (field_says ms r.fields p i k r.says bad)
+-- the three kinds of refusals
+abbrev Kinds : List ℕ → DomainError → Type 0
+Kinds bytes e = ((e ≡ NotToml) × IsNoDocument bytes) ⊎ (HasBadField bytes e ⊎ HasBroken bytes e)
 
--- a bad field, or want of memory
-pub field_answers : (bytes : List ℕ) (ms : Members) (e : DomainError) → IsDocument bytes ms → TellsField ms e → Answers bytes (Err e)
-field_answers bytes ms (BadField p i k) doc told = (
-  λ ms' d doc' h. absurd (field_says ms' h.fields p i k h.says (subst (λ (m : Members). IsBadField m p i k) (doc_same bytes ms ms' doc doc') told)),
-  λ ms' e doc' r. inr (ap Err (same_refusal ms' p i k e (subst (λ (m : Members). IsBadField m p i k) (doc_same bytes ms ms' doc doc') told) r)),
-  λ none. absurd (none ms doc),
-)
-field_answers bytes ms Memory doc told = memory_answers bytes
-field_answers bytes ms _ doc told = absurd told
+kinds : (bytes : List ℕ) (e : DomainError) → IsDomainRefusal bytes e → Kinds bytes e
+kinds bytes NotToml r = inl (refl, r)
+kinds bytes Memory r = absurd r
+kinds bytes (BadField p i k) r = inr (inl (record { members = r.0; document = r.1; part = p; index = i; key = k; told = refl; bad = r.2 }))
+kinds bytes _ r = inr (inr (record { members = r.0; document = r.1; broken = r.2 }))
 
-module _ (bytes : List ℕ) (ms : Members) (f : FieldsValue) (doc : IsDocument bytes ms) (says : Says ms f) (alone : (g : FieldsValue) → Says ms g → g ≡ f) where
-  -- what another document of the bytes says
-  fields_same : (ms' : Members) (g : FieldsValue) → IsDocument bytes ms' → Says ms' g → g ≡ f
-  fields_same ms' g doc' h = alone g (subst (λ (m : Members). Says m g) (doc_same bytes ms' ms doc' doc) h)
+module _ (one : OnePrefix) (bytes : List ℕ) where
+  -- what documents of the bytes say is one thing alone
+  fields_same : (ms ms' : Members) (f f' : FieldsValue) → IsDocument bytes ms → IsDocument bytes ms' → Says ms f → Says ms' f' → f ≡ f'
+  fields_same ms ms' f f' d d' a b = says_same one ms' f f' (subst (λ (m : Members). Says m f) (doc_same bytes ms ms' d d') a) b
 
-  no_bad_field : (ms' : Members) (p : Part) (i : Option ℕ) (k : Option Key) → IsDocument bytes ms' → IsBadField ms' p i k → ⊥
-  no_bad_field ms' p i k doc' bad = field_says ms f p i k says (subst (λ (m : Members). IsBadField m p i k) (doc_same bytes ms' ms doc' doc) bad)
+  pub one_domain : (a b : DomainValue) → IsDomainOf bytes a → IsDomainOf bytes b → a ≡ b
+  one_domain a b p q =
+      let same = fields_same p.members q.members p.says.fields q.says.fields p.document q.document p.says.says q.says.says in
+      made_alone q.says.fields a b (subst (λ (f : FieldsValue). IsMadeOf f a) same p.says.made) q.says.made
 
-  same_broken : (e : DomainError) (ms' : Members) (e' : DomainError) → IsFirstBroken f e → IsDocument bytes ms' → IsRefusal ms' e' → e ≡ e'
-  same_broken e ms' (BadField p i k) b doc' r = absurd (no_bad_field ms' p i k doc' r)
-  same_broken e ms' e' b doc' r = broken_alone f e e' b (subst (λ (g : FieldsValue). IsFirstBroken g e') (fields_same ms' r.fields doc' r.says) r.broken)
+  field_and_says : (e : DomainError) → HasBadField bytes e → (ms : Members) (f : FieldsValue) → IsDocument bytes ms → Says ms f → ⊥
+  field_and_says e h ms f d says =
+      field_says ms f h.part h.index h.key says (subst (λ (m : Members). IsBadField m h.part h.index h.key) (doc_same bytes h.members ms h.document d) h.bad)
 
-  rule_answers : (e : DomainError) → IsFirstBroken f e → Answers bytes (Err e)
-  rule_answers e b = (
-    λ ms' d doc' h. absurd (made_not f d e (subst (λ (g : FieldsValue). IsMadeOf g d) (fields_same ms' h.fields doc' h.says) h.made) b),
-    λ ms' e' doc' r. inr (ap Err (same_broken e ms' e' b doc' r)),
-    λ none. absurd (none ms doc),
-  )
+  domain_and_kinds : (d : DomainValue) (e : DomainError) → IsDomainOf bytes d → Kinds bytes e → ⊥
+  domain_and_kinds d e p (inl none) = none.1 p.members p.document
+  domain_and_kinds d e p (inr (inl field)) = field_and_says e field p.members p.says.fields p.document p.says.says
+  domain_and_kinds d e p (inr (inr rule)) =
+      let same = fields_same p.members rule.members p.says.fields rule.broken.fields p.document rule.document p.says.says rule.broken.says in
+      made_not rule.broken.fields d e (subst (λ (f : FieldsValue). IsMadeOf f d) same p.says.made) rule.broken.broken
 
-  -- a broken rule, or want of memory
-  pub broken_answers : (e : DomainError) → TellsBroken f e → Answers bytes (Err e)
-  broken_answers Memory b = memory_answers bytes
-  broken_answers e b = rule_answers e b
+  pub either : (d : DomainValue) (e : DomainError) → IsDomainOf bytes d → IsDomainRefusal bytes e → ⊥
+  either d e p r = domain_and_kinds d e p (kinds bytes e r)
 
-  no_refusal : (d : DomainValue) (ms' : Members) (e' : DomainError) → IsMadeOf f d → IsDocument bytes ms' → IsRefusal ms' e' → ⊥
-  no_refusal d ms' (BadField p i k) made doc' r = no_bad_field ms' p i k doc' r
-  no_refusal d ms' e' made doc' r = made_not f d e' made (subst (λ (g : FieldsValue). IsFirstBroken g e') (fields_same ms' r.fields doc' r.says) r.broken)
+  same_kinds : (a b : DomainError) → Kinds bytes a → Kinds bytes b → a ≡ b
+  same_kinds a b (inl p) (inl q) = p.0 ∙ sym q.0
+  same_kinds a b (inl p) (inr (inl q)) = absurd (p.1 q.members q.document)
+  same_kinds a b (inl p) (inr (inr q)) = absurd (p.1 q.members q.document)
+  same_kinds a b (inr (inl p)) (inl q) = absurd (q.1 p.members p.document)
+  same_kinds a b (inr (inr p)) (inl q) = absurd (q.1 p.members p.document)
+  same_kinds a b (inr (inl p)) (inr (inl q)) =
+      let bad = subst (λ (m : Members). IsBadField m p.part p.index p.key) (doc_same bytes p.members q.members p.document q.document) p.bad in
+      let same = field_alone q.members p.part q.part p.index q.index p.key q.key bad q.bad in
+      p.told ∙ rw (same.0, same.1, same.2) (sym q.told)
+  same_kinds a b (inr (inl p)) (inr (inr q)) = absurd (field_and_says a p q.members q.broken.fields q.document q.broken.says)
+  same_kinds a b (inr (inr p)) (inr (inl q)) = absurd (field_and_says b q p.members p.broken.fields p.document p.broken.says)
+  same_kinds a b (inr (inr p)) (inr (inr q)) =
+      let same = fields_same p.members q.members p.broken.fields q.broken.fields p.document q.document p.broken.says q.broken.says in
+      broken_alone q.broken.fields a b (subst (λ (f : FieldsValue). IsFirstBroken f a) same p.broken.broken) q.broken.broken
 
-  -- a domain
-  pub made_answers : (d : DomainValue) → IsMadeOf f d → Answers bytes (Ok d)
-  made_answers d made = (
-    λ ms' d' doc' h. inr (ap Ok (made_alone f d d' made (subst (λ (g : FieldsValue). IsMadeOf g d') (fields_same ms' h.fields doc' h.says) h.made))),
-    λ ms' e' doc' r. absurd (no_refusal d ms' e' made doc' r),
-    λ none. absurd (none ms doc),
-  )
+  pub one_refusal : (a b : DomainError) → IsDomainRefusal bytes a → IsDomainRefusal bytes b → a ≡ b
+  one_refusal a b p q = same_kinds a b (kinds bytes a p) (kinds bytes b q)
+
+-- ---- the answer
+
+module _
+    (one_domain : (bytes : List ℕ) (a b : DomainValue) → IsDomainOf bytes a → IsDomainOf bytes b → a ≡ b)
+    (one_refusal : (bytes : List ℕ) (a b : DomainError) → IsDomainRefusal bytes a → IsDomainRefusal bytes b → a ≡ b)
+    (either : (bytes : List ℕ) (d : DomainValue) (e : DomainError) → IsDomainOf bytes d → IsDomainRefusal bytes e → ⊥)
+    (bytes : List ℕ) where
+  -- what is told of the bytes is a refusal, or want of memory
+  told : (e : DomainError) → TellsRefusal bytes e → (e ≡ Memory) ⊎ IsDomainRefusal bytes e
+  told Memory t = inl refl
+  told NotToml t = inr t
+  told _ t = inr t
+
+  pub domain_answered : (r : Result DomainValue DomainError) → IfOk r (IsDomainOf bytes) → IfErr r (TellsRefusal bytes) → (d : DomainValue) → IsDomainOf bytes d → IsAnswer r (Ok d)
+  domain_answered (Ok a) ok err d p = inr (ap Ok (one_domain bytes a d ok p))
+  domain_answered (Err e) ok err d p = elim (told e err) [ inl m ↦ inl (ap Err m) | inr r ↦ absurd (either bytes d e p r) ]
+
+  pub refusal_answered : (r : Result DomainValue DomainError) → IfOk r (IsDomainOf bytes) → IfErr r (TellsRefusal bytes) → (e : DomainError) → IsDomainRefusal bytes e → IsAnswer r (Err e)
+  refusal_answered (Ok a) ok err e p = absurd (either bytes a e ok p)
+  refusal_answered (Err b) ok err e p = elim (told b err) [ inl m ↦ inl (ap Err m) | inr r ↦ inr (ap Err (one_refusal bytes b e r p)) ]

@@ -1,5 +1,5 @@
 -- What stands at a key, from the text that was read there.
-use Rattle.std.proofs.Common.{◌≡◌, ℕ, List, [], ◌∷◌, Option, Some, Bool, false, String, Global, string_bytes, bytes_eq, not, ◌||◌, refl, ap, subst, sym}
+use Rattle.std.proofs.Common.{◌≡◌, ℕ, List, [], ◌∷◌, Option, Some, Bool, false, String, Global, string_bytes, bytes_eq, not, ◌||◌, refl, ap, subst}
 use Rattle.std.specs.List.{list_any}
 use Rattle.std.specs.Map.{keys_of}
 use Rattle.toml.specs.View.{members_view}
@@ -24,9 +24,3 @@ some_other known (k ∷ ks) = not (list_any (bytes_eq (string_bytes k)) known) |
 pub other_keys : (known : List (List ℕ)) (es : List (String Global × Value)) → has_other known (members_view es) ≡ some_other known (keys_of es)
 other_keys known [] = refl
 other_keys known (e ∷ es) = ap (λ b. not (list_any (bytes_eq (string_bytes e.0)) known) || b) (other_keys known es)
-
--- a prefix that is read is the only one whose text stands there
-pub prefix_alone : (at : Option Data) (text : List ℕ) (p : Span) → text_of at ≡ Some text → ((span : Span) → IsPrefixText text span → Some p ≡ Some span) → (span : Span) → IsPrefixAt at span → span ≡ p
-prefix_alone at text p read found span h =
-    let same : h.0 ≡ text = same_Some _ _ (rw h.1 at read) in
-    sym (same_Some _ _ (found span (subst (λ t. IsPrefixText t span) same h.2)))

@@ -1,20 +1,20 @@
 -- The domain of a file's bytes, or why they have none.
-use Rattle.std.specs.Prelude.{◌≡◌, ◌≢◌, ℕ, ◌-◌, ◌*◌, ◌<◌, ◌≤◌, ◌⊎◌, List, length, slice_index_or, IsUtf8, Some, Result, Err, ◌↔◌}
+use Rattle.std.specs.Prelude.{◌≡◌, ◌≢◌, ℕ, ◌-◌, ◌*◌, ◌^◌, ◌<◌, ◌≤◌, ◌⊎◌, List, length, slice_index_or, IsUtf8, Some, Result, Err, ◌↔◌}
 use Rattle.toml.specs.Data.{Members}
 use Rattle.toml.specs.Parse.{parse_document}
 use Rattle.am_clock.specs.Times.{Times, IsTiming}
 use Rattle.am_ip6.specs.declared.marks.Place.{Place as Kind}
 use Rattle.am_domain.specs.Values.{FlowValue, NodeValue}
-use Rattle.am_domain.specs.Texts.{IsName, IsFileName}
-use Rattle.am_domain.specs.Network.{IsFirstBlock, IsEndBlock, IsReported}
+use Rattle.am_domain.specs.Texts.{IsName, IsFileName, IsReading}
+use Rattle.am_domain.specs.Network.{shift_at, IsFirstBlock, IsEndBlock, IsReported, AreWindowsWithin}
 use Rattle.am_domain.specs.Fields.{FieldsValue, Says, IsBadField}
 use Rattle.am_domain.specs.Rules.{Each, AreDistinct, SameFlowName, SameFlowId, SameNodeName, KeepsFirst, IsLaidOut, IsFirstBroken}
 use Rattle.am_domain.specs.declared.link.Edge.{Edge}
 use Rattle.am_domain.specs.declared.error.DomainError.{DomainError}
 use Rattle.am_domain.specs.declared.error.DomainError.TheVariants.{NotToml, BadField, Memory}
 
--- a domain: its numbers of time, the kind of header that marks stand in, how many workers count, its flows, its nodes, its links by the
--- numbers of their nodes, and the reported blocks, from `first` on and below `end`
+-- a domain: its numbers of time, the kind of header that marks stand in, how many workers count, its flows, its
+-- nodes, its links by the numbers of their nodes, and the reported blocks, from `first` on and below `end`
 pub record DomainValue : Type 0 where
   pub times : Times
   pub kind : Kind
@@ -29,19 +29,29 @@ pub record DomainValue : Type 0 where
 abbrev pub SameNodes : Edge → Edge → Type 0
 SameNodes a b = (a.from ≡ b.from) × (a.to ≡ b.to)
 
+-- the link begins or ends at the node of this number
+abbrev pub IsEndOf : ℕ → Edge → Type 0
+IsEndOf node link = (link.from ≡ node) ⊎ (link.to ≡ node)
+
 -- some link begins or ends at the node of this number
 pub record IsLinked (links : List Edge) (node : ℕ) : Type 0 where
   pub number : ℕ
   pub within : number < length links
-  pub here : (d : Edge) → ((slice_index_or links number d).from ≡ node) ⊎ ((slice_index_or links number d).to ≡ node)
+  pub here : (d : Edge) → IsEndOf node (slice_index_or links number d)
+
+-- the domain reports the block
+abbrev pub Reports : DomainValue → ℕ → Type 0
+Reports d block = (d.first ≤ block) × (block < d.end)
 
 -- what every domain has: see each line
 pub record IsLawful (d : DomainValue) : Type 0 where
   -- its numbers of time are a timing
   pub timing : IsTiming d.times
-  -- 1 to 64 workers, and no more flows, nodes and links than there may be
+  -- 1 to 64 workers
   pub some_worker : 1 ≤ d.workers
   pub few_workers : d.workers ≤ 64
+  -- there is a flow, and there are no more flows, nodes and links than there may be
+  pub some_flow : 1 ≤ length d.flows
   pub few_flows : length d.flows ≤ 1024
   pub few_nodes : length d.nodes ≤ 128
   pub few_links : length d.links ≤ 1024
@@ -50,21 +60,31 @@ pub record IsLawful (d : DomainValue) : Type 0 where
   pub flow_ids : Each (λ f. f.id ≤ 1048575) d.flows
   pub node_names : Each (λ n. IsName n.name) d.nodes
   pub captures : Each (λ n. IsFileName n.capture) d.nodes
+  -- each capture's span begins and ends at readings, which are at most 2^32 seconds
+  pub from_readings : Each (λ n. IsReading n.from) d.nodes
+  pub until_readings : Each (λ n. IsReading n.until) d.nodes
   -- no two flows have the same name or number, and no two nodes the same name
   pub flow_names_differ : AreDistinct SameFlowName d.flows
   pub flow_ids_differ : AreDistinct SameFlowId d.flows
   pub node_names_differ : AreDistinct SameNodeName d.nodes
-  -- each link leads from one node of the domain to another, no two from and to the same nodes, and each node has one
+  -- each link leads from one node of the domain to another, no two from and to the same nodes, and each node
+  -- has one
   pub links_within : Each (λ e. (e.from < length d.nodes) × (e.to < length d.nodes)) d.links
   pub ends_differ : Each (λ e. e.from ≢ e.to) d.links
   pub links_differ : AreDistinct SameNodes d.links
   pub nodes_linked : (node : ℕ) → node < length d.nodes → IsLinked d.links node
-  -- the reported blocks are those that are covered at every node; there is one, and they are not too many for the flows
-  pub reported : (block : ℕ) → ((d.first ≤ block) × (block < d.end)) ↔ IsReported d.times d.nodes d.links block
+  -- no node sees the blocks later than by 2^40 nanoseconds
+  pub shifts : (k : ℕ) → k < length d.nodes → shift_at d.times d.nodes d.links k ≤ 2 ^ 40
+  -- the reported blocks are those that are covered at every node; there is one, and they are not too many for
+  -- the flows
+  pub reported : (block : ℕ) → Reports d block ↔ IsReported d.times d.nodes d.links block
   pub some_block : d.first < d.end
   pub few_cells : length d.flows * (d.end - d.first) ≤ 32768
   pub starts : IsFirstBlock d.times d.nodes d.links d.first
   pub ends : IsEndBlock d.times d.nodes d.links d.end
+  -- the window of a reported block lies within the span of the capture, at every node, and so ends at most at
+  -- 2^32 seconds
+  pub windows : (block : ℕ) → Reports d block → AreWindowsWithin d.times d.nodes d.links block
 
 -- the domain has what the file says, which keeps every rule
 pub record IsMadeOf (f : FieldsValue) (d : DomainValue) : Type 0 where
@@ -102,11 +122,23 @@ IsRefusal ms e = IsBroken ms e
 abbrev pub IsNoDocument : List ℕ → Type 0
 IsNoDocument bytes = (ms : Members) → IsDocument bytes ms → ⊥
 
--- what a refusal says of the bytes: they are no document, or they are one with this first refusal; want of memory says nothing
+-- the bytes are a document that says the domain
+pub record IsDomainOf (bytes : List ℕ) (d : DomainValue) : Type 0 where
+  pub members : Members
+  pub document : IsDocument bytes members
+  pub says : IsDomain members d
+
+-- the bytes are refused so: they are no document, or they are one with this first refusal. Want of memory refuses
+-- no bytes
+abbrev pub IsDomainRefusal : List ℕ → DomainError → Type 0
+IsDomainRefusal bytes NotToml = IsNoDocument bytes
+IsDomainRefusal bytes Memory = ⊥
+IsDomainRefusal bytes e = (ms : Members) × IsDocument bytes ms × IsRefusal ms e
+
+-- what is answered where there is no domain: how the bytes are refused, or want of memory, which says nothing of them
 abbrev pub TellsRefusal : List ℕ → DomainError → Type 0
-TellsRefusal bytes NotToml = IsNoDocument bytes
 TellsRefusal bytes Memory = Unit {0}
-TellsRefusal bytes e = (ms : Members) × IsDocument bytes ms × IsRefusal ms e
+TellsRefusal bytes e = IsDomainRefusal bytes e
 
 -- the answer is this one, or want of memory
 abbrev pub IsAnswer : Result DomainValue DomainError → Result DomainValue DomainError → Type 0

@@ -48,38 +48,57 @@ pub record SaysMarking (ms : Members) (marking : MarkingValue) : Type 0 where
   pub known : IsRight Marking ms Unknown
 
 -- a table stands there, which says this
-pub record IsTableAt {X : Type 0} (Says : Members → X → Type 0) (at : Option Data) (x : X) : Type 0 where
+pub record IsTableAt {X : Type 0} (Says : Members → X → Type 0) (at : Option Data) (x : X)
+    : Type 0 where
   pub ms : Members
   pub is_table : at ≡ Some (table ms)
   pub says : Says ms x
 
+-- what each part of the document says
+abbrev pub TimingSays : Members → Times → Type 0
+TimingSays ms = IsTableAt SaysTimes (at_part ms Timing)
+
+abbrev pub MarkingSays : Members → MarkingValue → Type 0
+MarkingSays ms = IsTableAt SaysMarking (at_part ms Marking)
+
+abbrev pub FlowsSay : Members → List FlowValue → Type 0
+FlowsSay ms = AreEntries SaysFlow (at_part ms Flow)
+
+abbrev pub NodesSay : Members → List NodeValue → Type 0
+NodesSay ms = AreEntries SaysNode (at_part ms Node)
+
+abbrev pub LinksSay : Members → List LinkValue → Type 0
+LinksSay ms = AreEntries SaysLink (at_part ms Link)
+
 -- the document says this, and has no other key
 pub record Says (ms : Members) (fields : FieldsValue) : Type 0 where
-  pub timing : IsTableAt SaysTimes (at_part ms Timing) fields.times
-  pub marking : IsTableAt SaysMarking (at_part ms Marking) fields.marking
-  pub flows : AreEntries SaysFlow (at_part ms Flow) fields.flows
-  pub nodes : AreEntries SaysNode (at_part ms Node) fields.nodes
-  pub links : AreEntries SaysLink (at_part ms Link) fields.links
+  pub timing : TimingSays ms fields.times
+  pub marking : MarkingSays ms fields.marking
+  pub flows : FlowsSay ms fields.flows
+  pub nodes : NodesSay ms fields.nodes
+  pub links : LinksSay ms fields.links
   pub known : has_other (spellings Top) ms ≡ false
 
 -- the part says something; the top does where it has no other key
 abbrev pub IsRightPart : Members → Part → Type 0
-IsRightPart ms Timing = (times : Times) × IsTableAt SaysTimes (at_part ms Timing) times
-IsRightPart ms Marking = (marking : MarkingValue) × IsTableAt SaysMarking (at_part ms Marking) marking
-IsRightPart ms Flow = (flows : List FlowValue) × AreEntries SaysFlow (at_part ms Flow) flows
-IsRightPart ms Node = (nodes : List NodeValue) × AreEntries SaysNode (at_part ms Node) nodes
-IsRightPart ms Link = (links : List LinkValue) × AreEntries SaysLink (at_part ms Link) links
+IsRightPart ms Timing = (times : Times) × TimingSays ms times
+IsRightPart ms Marking = (marking : MarkingValue) × MarkingSays ms marking
+IsRightPart ms Flow = (flows : List FlowValue) × FlowsSay ms flows
+IsRightPart ms Node = (nodes : List NodeValue) × NodesSay ms nodes
+IsRightPart ms Link = (links : List LinkValue) × LinksSay ms links
 IsRightPart ms Top = has_other (spellings Top) ms ≡ false
 
 -- what is wrong with a table: there is none, which has no key to tell, or its first bad key is this
 abbrev pub IsBadTable : Part → Option Data → Option ℕ → Option Key → Type 0
 IsBadTable part at None None = (ms : Members) → at ≡ Some (table ms) → ⊥
-IsBadTable part at None (Some key) = (ms : Members) × (at ≡ Some (table ms)) × IsBadKey part ms key
+IsBadTable part at None (Some key) =
+    (ms : Members) × (at ≡ Some (table ms)) × IsBadKey part ms key
 IsBadTable part at (Some index) key = ⊥
 
 -- what is wrong with the top: it has another key
 abbrev pub IsBadTop : Members → Option ℕ → Option Key → Type 0
-IsBadTop ms index key = (index ≡ None) × (key ≡ Some Unknown) × (has_other (spellings Top) ms ≡ true)
+IsBadTop ms index key =
+    (index ≡ None) × (key ≡ Some Unknown) × (has_other (spellings Top) ms ≡ true)
 
 -- what is wrong with the part, with the item and the key that it is found at
 abbrev pub IsBadPart : Members → Part → Option ℕ → Option Key → Type 0
@@ -104,7 +123,8 @@ part_place Link = 4
 part_place Top = 5
 
 -- this is the first bad part, with the item and the key that it is bad at; the parts before it are right
-pub record IsBadField (ms : Members) (part : Part) (index : Option ℕ) (key : Option Key) : Type 0 where
+pub record IsBadField (ms : Members) (part : Part) (index : Option ℕ) (key : Option Key)
+    : Type 0 where
   pub before : AllByRecursion (IsRightPart ms) (take (part_place part) parts)
   pub bad : IsBadPart ms part index key
 

@@ -10,3 +10,4 @@ pub mod Network
 pub mod Rules
 pub mod Domains
 pub mod Lookups
+pub mod DomainTexts

@@ -13,10 +13,12 @@ pub record IsFirstPlace {X : Type 0} (P Q : X → Type 0) (xs : List X) (place :
 
 -- no two of the first n are the same
 abbrev pub DistinctBelow : {X : Type 0} → (X → X → Type 0) → ℕ → List X → Type 0
-DistinctBelow {X} Same n xs = (j : ℕ) (d : X) → j < n → AllBelow (λ x. ¬ Same x (slice_index_or xs j d)) j xs
+DistinctBelow {X} Same n xs =
+    (j : ℕ) (d : X) → j < n → AllBelow (λ x. ¬ Same x (slice_index_or xs j d)) j xs
 
 -- the least place whose item is the same as an earlier one, and that earlier one's place
-pub record IsFirstPair {X : Type 0} (Same : X → X → Type 0) (xs : List X) (first second : ℕ) : Type 0 where
+pub record IsFirstPair {X : Type 0} (Same : X → X → Type 0) (xs : List X) (first second : ℕ)
+    : Type 0 where
   pub order : first < second
   pub within : second < length xs
   pub before : DistinctBelow Same second xs

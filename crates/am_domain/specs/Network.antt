@@ -1,7 +1,7 @@
 -- The network of a domain: its nodes by their names, its links, and the blocks that are covered at every node.
-use Rattle.std.specs.Prelude.{◌≡◌, ◌≢◌, ℕ, ◌<◌, ◌≤◌, ◌⊎◌, ◌==◌, ◌↔◌, if◌then◌else◌, List, length, slice_index_or}
+use Rattle.std.specs.Prelude.{◌≡◌, ◌≢◌, ℕ, ◌+◌, ◌*◌, ◌<◌, ◌≤◌, ◌⊎◌, ◌==◌, ◌↔◌, Bool, if◌then◌else◌, List, length, slice_index_or}
 use Rattle.std.specs.List.{list_any}
-use Rattle.am_clock.specs.Times.{Times}
+use Rattle.am_clock.specs.Times.{Times, half}
 use Rattle.am_clock.specs.Covered.{StartsIn, EndsIn, IsCovered}
 use Rattle.am_domain.specs.Values.{NodeValue, LinkValue}
 use Rattle.am_domain.specs.Lists.{AllBelow, IsFirstPlace}
@@ -58,35 +58,74 @@ pub record HasLink (links : List LinkValue) (node : NodeValue) : Type 0 where
 abbrev pub IsLone : List LinkValue → NodeValue → Type 0
 IsLone links node = AllBelow (λ l. ¬ IsAt node.name l) (length links) links
 
+-- some link ends at the node of this number
+abbrev pub has_links_in : List Edge → ℕ → Bool
+has_links_in edges number = list_any (λ e. e.to == number) edges
+
+-- some link begins at the node of this number
+abbrev pub has_links_out : List Edge → ℕ → Bool
+has_links_out edges number = list_any (λ e. e.from == number) edges
+
 -- the shift of a node: 0 where no link ends at it, else the least delay (RFC 9341, section 5)
-abbrev pub shift_at : Times → List Edge → ℕ → ℕ
-shift_at times edges number = if list_any (λ e. e.to == number) edges then times.delay_min else 0
+abbrev pub shift_at : Times → List NodeValue → List Edge → ℕ → ℕ
+shift_at times nodes edges number = if has_links_in edges number then times.delay_min else 0
+
+-- at the node of this number the block's window begins within the span of the capture
+abbrev pub StartsAt : Times → List NodeValue → List Edge → ℕ → NodeValue → ℕ → Type 0
+StartsAt times nodes edges k d block =
+    StartsIn times (slice_index_or nodes k d).from (shift_at times nodes edges k) block
+
+-- at the node of this number the block's window ends within the span of the capture
+abbrev pub EndsAt : Times → List NodeValue → List Edge → ℕ → NodeValue → ℕ → Type 0
+EndsAt times nodes edges k d block =
+    EndsIn times (slice_index_or nodes k d).until (shift_at times nodes edges k) block
 
 -- at each of the first so many nodes, the block's window begins within the span of the capture
 abbrev pub StartsBelow : Times → List NodeValue → List Edge → ℕ → ℕ → Type 0
 StartsBelow times nodes edges count block =
-    (k : ℕ) (d : NodeValue) → k < count → StartsIn times (slice_index_or nodes k d).from (shift_at times edges k) block
+    (k : ℕ) (d : NodeValue) → k < count → StartsAt times nodes edges k d block
 
 -- at each of the first so many nodes, the block's window ends within the span of the capture
 abbrev pub EndsBelow : Times → List NodeValue → List Edge → ℕ → ℕ → Type 0
 EndsBelow times nodes edges count block =
-    (k : ℕ) (d : NodeValue) → k < count → EndsIn times (slice_index_or nodes k d).until (shift_at times edges k) block
+    (k : ℕ) (d : NodeValue) → k < count → EndsAt times nodes edges k d block
 
 -- the blocks from this one on begin within the span of each capture, and no others
 abbrev pub IsFirstBlock : Times → List NodeValue → List Edge → ℕ → Type 0
-IsFirstBlock times nodes edges first = (block : ℕ) → (first ≤ block) ↔ StartsBelow times nodes edges (length nodes) block
+IsFirstBlock times nodes edges first =
+    (block : ℕ) → (first ≤ block) ↔ StartsBelow times nodes edges (length nodes) block
 
 -- the blocks below this one end within the span of each capture, and no others
 abbrev pub IsEndBlock : Times → List NodeValue → List Edge → ℕ → Type 0
-IsEndBlock times nodes edges end = (block : ℕ) → (block < end) ↔ EndsBelow times nodes edges (length nodes) block
+IsEndBlock times nodes edges end =
+    (block : ℕ) → (block < end) ↔ EndsBelow times nodes edges (length nodes) block
+
+-- the node's capture, which has these readings, covers the block, whose windows are later by this shift
+abbrev pub Covers : Times → NodeValue → ℕ → ℕ → Type 0
+Covers times node shift block = IsCovered times node.from node.until shift block
 
 -- the block is covered at every node: each capture's span has every reading of the block's window there
 abbrev pub IsReported : Times → List NodeValue → List Edge → ℕ → Type 0
 IsReported times nodes edges block =
-    (k : ℕ) (d : NodeValue) → k < length nodes → IsCovered times (slice_index_or nodes k d).from (slice_index_or nodes k d).until (shift_at times edges k) block
+    (k : ℕ) (d : NodeValue) → k < length nodes
+    → Covers times (slice_index_or nodes k d) (shift_at times nodes edges k) block
+
+-- the block's window at the node, later by this shift, lies within the span of the capture, as numbers
+pub record IsWindowWithin (times : Times) (node : NodeValue) (shift block : ℕ) : Type 0 where
+  -- it begins in the span; a span from reading 0 may begin later than the window, since no reading is below 0
+  pub begins : 0 < node.from → node.from + half times ≤ block * times.block + shift
+  -- it ends by the end of the span
+  pub ends : block * times.block + times.block + half times + shift ≤ node.until
+
+-- the block's window lies within the span of the capture, at every node
+abbrev pub AreWindowsWithin : Times → List NodeValue → List Edge → ℕ → Type 0
+AreWindowsWithin times nodes edges block =
+    (k : ℕ) (d : NodeValue) → k < length nodes
+    → IsWindowWithin times (slice_index_or nodes k d) (shift_at times nodes edges k) block
 
 -- what the joining of links answers: the first link with an end that is no node, or want of memory
 abbrev pub TellsLoose : List NodeValue → List LinkValue → DomainError → Type 0
-TellsLoose nodes links (UnknownNode link end) = IsFirstPlace (IsBetween nodes) (IsLoose nodes end) links link
+TellsLoose nodes links (UnknownNode link end) =
+    IsFirstPlace (IsBetween nodes) (IsLoose nodes end) links link
 TellsLoose nodes links Memory = Unit {0}
 TellsLoose nodes links _ = ⊥

@@ -33,8 +33,10 @@ pub data Rule : Type 0 where
 -- the rules in the order in which they are looked at
 abbrev pub rules_in_order : List Rule
 rules_in_order =
-    timed ∷ few_nodes ∷ few_links ∷ few_flows ∷ flow_names_differ ∷ flow_ids_differ ∷ node_names_differ
-    ∷ ends_are_nodes ∷ ends_differ ∷ links_differ ∷ nodes_have_links ∷ some_block ∷ few_cells ∷ []
+    timed ∷ few_nodes ∷ few_links ∷ few_flows
+    ∷ flow_names_differ ∷ flow_ids_differ ∷ node_names_differ
+    ∷ ends_are_nodes ∷ ends_differ ∷ links_differ ∷ nodes_have_links
+    ∷ some_block ∷ few_cells ∷ []
 
 -- two flows have the same name
 abbrev pub SameFlowName : FlowValue → FlowValue → Type 0
@@ -79,8 +81,11 @@ Keeps f ends_are_nodes = Each (IsBetween f.nodes) f.links
 Keeps f ends_differ = Each EndsDiffer f.links
 Keeps f links_differ = AreDistinct SameEnds f.links
 Keeps f nodes_have_links = Each (HasLink f.links) f.nodes
-Keeps f some_block = (edges : List Edge) × (first : ℕ) × (end : ℕ) × IsLaidOut f edges first end × (first < end)
-Keeps f few_cells = (edges : List Edge) × (first : ℕ) × (end : ℕ) × IsLaidOut f edges first end × (length f.flows * (end - first) ≤ 32768)
+Keeps f some_block =
+    (edges : List Edge) × (first : ℕ) × (end : ℕ) × IsLaidOut f edges first end × (first < end)
+Keeps f few_cells =
+    (edges : List Edge) × (first : ℕ) × (end : ℕ) × IsLaidOut f edges first end
+    × (length f.flows * (end - first) ≤ 32768)
 
 -- there are too many of a part, and so many
 abbrev pub IsTooMany : ℕ → ℕ → ℕ → Type 0
@@ -101,7 +106,8 @@ Tells f (LinkTwice first second) = IsFirstPair SameEnds f.links first second
 Tells f (LoneNode node) = IsFirstPlace (HasLink f.links) (IsLone f.links) f.nodes node
 Tells f (NoBlock first end) = (edges : List Edge) × IsLaidOut f edges first end × (end ≤ first)
 Tells f (TooManyCells count) =
-    (edges : List Edge) × (first : ℕ) × (end : ℕ) × IsLaidOut f edges first end × (count ≡ length f.flows * (end - first)) × (32768 < count)
+    (edges : List Edge) × (first : ℕ) × (end : ℕ) × IsLaidOut f edges first end
+    × (count ≡ length f.flows * (end - first)) × (32768 < count)
 Tells f _ = ⊥
 
 -- how many rules are looked at before the one that the answer tells
@@ -144,5 +150,6 @@ TellsMany at found _ = ⊥
 abbrev pub TellsBlocks : FieldsValue → List Edge → DomainError → Type 0
 TellsBlocks f edges (NoBlock first end) = IsLaidOut f edges first end × (end ≤ first)
 TellsBlocks f edges (TooManyCells count) =
-    (first : ℕ) × (end : ℕ) × IsLaidOut f edges first end × (first < end) × (count ≡ length f.flows * (end - first)) × (32768 < count)
+    (first : ℕ) × (end : ℕ) × IsLaidOut f edges first end × (first < end)
+    × (count ≡ length f.flows * (end - first)) × (32768 < count)
 TellsBlocks f edges _ = ⊥

@@ -1,15 +1,24 @@
 -- The values that stand at the keys of a domain file.
-use Rattle.std.specs.Prelude.{◌≡◌, ℕ, pos, codes, ◌≤◌, ◌⊎◌, Bool, ◌||◌, ◌&&◌, ◌==◌, nat_le, not, IsTrue, List, length, Option, Some, None}
+use Rattle.std.specs.Prelude.{◌≡◌, ℕ, pos, codes, ◌≤◌, ◌⊎◌, Bool, ◌||◌, ◌&&◌, ◌==◌, nat_le, not, IsTrue, List, length, Option, Some, None, String}
 use Rattle.std.specs.List.{list_all}
-use Rattle.toml.specs.Data.{Data, string, integer}
+use Rattle.std.specs.BTreeMap.{BTreeMap}
+use Rattle.std.specs.declared.alloc.Global.{Global}
+use Rattle.toml.specs.Data.{Data, string, integer, get_member}
+use Rattle.toml.specs.View.{table_view}
+use Rattle.toml.specs.declared.value.Value.{Value}
 use Rattle.am_addr.specs.Bits.{Span, IsPrefixText}
 use Rattle.am_ip6.specs.declared.marks.Place.{Place}
 use Rattle.am_ip6.specs.declared.marks.Place.TheVariants.{HopByHop, Destination}
 
+-- a table of the crate `toml`
+abbrev pub Table : Type 0
+Table = BTreeMap (String Global) Value
+
 -- a byte that a name may have: A to Z, a to z, 0 to 9, '.', '_' and '-'
 unfoldable pub is_name_byte : ℕ → Bool
 is_name_byte c =
-    (nat_le 65 c && nat_le c 90) || (nat_le 97 c && nat_le c 122) || (nat_le 48 c && nat_le c 57) || (c == 46) || (c == 95) || (c == 45)
+    (nat_le 65 c && nat_le c 90) || (nat_le 97 c && nat_le c 122) || (nat_le 48 c && nat_le c 57)
+    || (c == 46) || (c == 95) || (c == 45)
 
 -- a name: 1 to 32 such characters
 pub record IsName (text : List ℕ) : Type 0 where
@@ -26,6 +35,10 @@ pub record IsFileName (text : List ℕ) : Type 0 where
   pub some : 1 ≤ length text
   pub most : length text ≤ 255
   pub plain : IsTrue (list_all is_file_byte text)
+
+-- what stands at a key of a table
+abbrev pub at_text : Table → List ℕ → Option Data
+at_text table key = get_member key (table_view table)
 
 -- the whole number of 0 or more that stands there
 abbrev pub natural : Option Data → Option ℕ
@@ -57,13 +70,18 @@ IsPrefixAt at span = (text : List ℕ) × (at ≡ Some (string text)) × IsPrefi
 abbrev pub IsIdAt : Option Data → ℕ → Type 0
 IsIdAt at n = (at ≡ Some (integer (pos n))) × (n ≤ 1048575)
 
--- a reading stands there, in nanoseconds: at most 2^32 seconds
+-- a reading that a capture can have, in nanoseconds: at most 2^32 seconds
+abbrev pub IsReading : ℕ → Type 0
+IsReading n = n ≤ 4294967296000000000
+
+-- a reading stands there
 abbrev pub IsReadingAt : Option Data → ℕ → Type 0
-IsReadingAt at n = (at ≡ Some (integer (pos n))) × (n ≤ 4294967296000000000)
+IsReadingAt at n = (at ≡ Some (integer (pos n))) × IsReading n
 
 -- a number of workers stands there, 1 to 64, or nothing, which means 1
 abbrev pub IsWorkersAt : Option Data → ℕ → Type 0
-IsWorkersAt at n = ((at ≡ None) × (n ≡ 1)) ⊎ ((at ≡ Some (integer (pos n))) × (1 ≤ n) × (n ≤ 64))
+IsWorkersAt at n =
+    ((at ≡ None) × (n ≡ 1)) ⊎ ((at ≡ Some (integer (pos n))) × (1 ≤ n) × (n ≤ 64))
 
 -- the kind of header that marks stand in stands there
 abbrev pub IsPlaceAt : Option Data → Place → Type 0

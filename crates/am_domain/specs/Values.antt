@@ -9,7 +9,8 @@ pub record FlowValue : Type 0 where
   pub source : Span
   pub destination : Span
 
--- what a node says: its name, the name of its capture file, and the span of readings that the capture has, in nanoseconds
+-- what a node says: its name, the name of its capture file, and the span of readings that the capture has, in
+-- nanoseconds
 pub record NodeValue : Type 0 where
   pub name : List ℕ
   pub capture : List ℕ

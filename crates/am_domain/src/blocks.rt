@@ -1,29 +1,28 @@
 //! Which blocks are reported: those that each node's capture covers (RFC 9341, section 5).
 
-ghost use Rattle.std.specs.Prelude.{◌≡◌, ◌==◌, ℕ, ◌≤◌, ◌<◌, ◌^◌, ◌↔◌, length, slice_index_or};
-ghost use Rattle.std.specs.List.{list_any};
-ghost use Rattle.am_clock.specs.Covered.{StartsIn, EndsIn};
-ghost use Rattle.am_domain.specs.Network.{shift_at, IsFirstBlock, IsEndBlock};
+ghost use Rattle.std.specs.Prelude.{◌≡◌, ℕ, ◌≤◌, ◌<◌, ◌^◌, ◌↔◌, List, length};
+ghost use Rattle.am_domain.specs.Network as spec;
+ghost use Rattle.am_domain.specs.Network.{shift_at, StartsAt, EndsAt, IsFirstBlock, IsEndBlock};
 ghost use Rattle.am_domain.specs.Values.{NodeValue};
 
 use crate::link::Edge;
 use crate::node::Node;
 use am_clock::Timing;
 
-/// The shift of a node, in nanoseconds: 0 where no link ends at it, else the least delay.
+/// The shift of a node, in nanoseconds: 0 where no link ends at it, else the least delay, whatever the nodes are.
 pub(crate) fn shift_of(timing: &Timing, edges: &[Edge], node: u32) -> u64
-    ensures value { result ≡ shift_at timing.now edges.now node }
+    ensures value { (nodes : List NodeValue) → result ≡ shift_at timing.now nodes edges.now node }
     ensures most { result ≤ 2 ^ 40 }
 {
-    if is_entered(edges, node) {
+    if has_links_in(edges, node) {
         return timing.delay_min();
     }
     0
 }
 
 // Whether a link ends at the node.
-fn is_entered(edges: &[Edge], node: u32) -> bool
-    ensures { result ≡ list_any (λ e. e.to == node) edges.now }
+fn has_links_in(edges: &[Edge], node: u32) -> bool
+    ensures { result ≡ spec.has_links_in edges.now node }
 {
     edges.iter().any(|edge| edge.to == node)
 }
@@ -49,8 +48,10 @@ pub(crate) fn reported(timing: &Timing, nodes: &[Node], edges: &[Edge]) -> (u64,
 fn covered_at(timing: &Timing, nodes: &[Node], edges: &[Edge], i: usize) -> (u64, u64)
     requires within { i < length nodes.now }
     requires few { length nodes.now ≤ 128 }
-    ensures first { (n : ℕ) (d : NodeValue) → (result.0 ≤ n) ↔ StartsIn timing.now (slice_index_or nodes.now i d).from (shift_at timing.now edges.now i) n }
-    ensures end { (n : ℕ) (d : NodeValue) → (n < result.1) ↔ EndsIn timing.now (slice_index_or nodes.now i d).until (shift_at timing.now edges.now i) n }
+    ensures first { (n : ℕ) (d : NodeValue)
+        → (result.0 ≤ n) ↔ StartsAt timing.now nodes.now edges.now i d n }
+    ensures end { (n : ℕ) (d : NodeValue)
+        → (n < result.1) ↔ EndsAt timing.now nodes.now edges.now i d n }
 {
     let node = &nodes[i];
     let shift = shift_of(timing, edges, i as u32);

@@ -1,12 +1,13 @@
 //! Domains: what is measured where, and by which blocks.
 
-ghost use Rattle.std.specs.Prelude.{◌≡◌, ℕ, ◌≤◌, ◌<◌, ◌^◌, ◌↔◌, IsTrue, List, IfOk, IfErr, IfSome, IfNone, length, Ok, Err};
+ghost use Rattle.std.specs.Prelude.{◌≡◌, ℕ, ◌≤◌, ◌<◌, ◌^◌, ◌↔◌, IsTrue, IfOk, IfErr, IfSome, IfNone, length, slice_index_or, Ok, Err, Some};
 ghost use Rattle.toml.specs.Data.{Members};
-ghost use Rattle.am_domain.specs.Domains.{DomainValue, IsLawful, IsMadeOf, IsDocument, IsDomain, IsRefusal, IsNoDocument, TellsRefusal, IsAnswer};
+ghost use Rattle.am_domain.specs.Domains.{DomainValue, IsLawful, IsMadeOf, IsDomainOf, IsDomainRefusal, TellsRefusal, IsAnswer};
 ghost use Rattle.am_domain.specs.Fields.{Says};
 ghost use Rattle.am_domain.specs.Lookups.{IsFirstWith, NoneHas, HasId, Holds};
 ghost use Rattle.am_domain.specs.Network.{shift_at, IsNumberOf, IsNoNode};
 ghost use Rattle.am_domain.specs.Rules.{TellsBroken};
+ghost use Rattle.am_domain.specs.Values.{FlowValue};
 ghost use Rattle.am_domain.specs.declared.error.DomainError.{DomainError as ErrorValue};
 
 use crate::blocks::shift_of;
@@ -14,6 +15,7 @@ use crate::error::DomainError;
 use crate::fields::{Fields, read_fields};
 use crate::flow::Flow;
 use crate::judge::{check_blocks, check_counts, check_ends, check_links, check_repeats};
+use crate::laws::domain_law;
 use crate::link::Edge;
 use crate::network::number_of;
 use crate::node::Node;
@@ -41,9 +43,27 @@ impl Model for Domain {
 
     ghost Value = { DomainValue };
 
-    ghost view = { λ d. record { times = d.timing; kind = d.place; workers = d.workers; flows = d.flows.items; nodes = d.nodes.items; links = d.edges.items; first = d.first; end = d.end } };
+    ghost view = { λ d. record {
+      times = d.timing;
+      kind = d.place;
+      workers = d.workers;
+      flows = d.flows.items;
+      nodes = d.nodes.items;
+      links = d.edges.items;
+      first = d.first;
+      end = d.end;
+    } };
 
-    ghost invariant = { λ d. IsLawful (record { times = d.timing; kind = d.place; workers = d.workers; flows = d.flows.items; nodes = d.nodes.items; links = d.edges.items; first = d.first; end = d.end }) };
+    ghost invariant = { λ d. IsLawful (record {
+      times = d.timing;
+      kind = d.place;
+      workers = d.workers;
+      flows = d.flows.items;
+      nodes = d.nodes.items;
+      links = d.edges.items;
+      first = d.first;
+      end = d.end;
+    }) };
 }
 
 impl Domain {
@@ -113,7 +133,7 @@ impl Domain {
     /// How much later a node sees the blocks, in nanoseconds: the least delay where a link ends at it, else 0.
     pub fn shift(&self, node: u32) -> u64
         requires { node < length self.now.nodes }
-        ensures value { result ≡ shift_at self.now.times self.now.links node }
+        ensures value { result ≡ shift_at self.now.times self.now.nodes self.now.links node }
         ensures most { result ≤ 2 ^ 40 }
     {
         shift_of(&self.timing, self.edges.as_slice(), node)
@@ -134,6 +154,9 @@ impl Domain {
     pub fn flow_of_id(&self, id: u32) -> Option<u32>
         ensures found { IfSome result (λ i. IsFirstWith (HasId id) self.now.flows i) }
         ensures none { IfNone result (NoneHas (HasId id) self.now.flows) }
+        // No other flow has the number of a flow, so each flow's number finds it.
+        ensures of { (i : ℕ) (d : FlowValue) → i < length self.now.flows
+            → id ≡ (slice_index_or self.now.flows i d).id → result ≡ Some i }
     {
         match first_with_id(self.flows.as_slice(), id) {
             Some(i) => Some(i as u32),
@@ -143,8 +166,10 @@ impl Domain {
 
     /// The first flow both of whose prefixes hold these addresses. None where there is none.
     pub fn flow_of(&self, source: &Addr, destination: &Addr) -> Option<u32>
-        ensures found { IfSome result (λ i. IsFirstWith (Holds source.now.0 destination.now.0) self.now.flows i) }
-        ensures none { IfNone result (NoneHas (Holds source.now.0 destination.now.0) self.now.flows) }
+        ensures found { IfSome result (λ i.
+            IsFirstWith (Holds source.now.0 destination.now.0) self.now.flows i) }
+        ensures none { IfNone result
+            (NoneHas (Holds source.now.0 destination.now.0) self.now.flows) }
     {
         match first_holding(self.flows.as_slice(), source, destination) {
             Some(i) => Some(i as u32),
@@ -169,7 +194,8 @@ fn first_with_id(flows: &[Flow], id: u32) -> Option<usize>
 
 // The first flow both of whose prefixes hold the addresses.
 fn first_holding(flows: &[Flow], source: &Addr, destination: &Addr) -> Option<usize>
-    ensures found { IfSome result (λ i. IsFirstWith (Holds source.now.0 destination.now.0) flows.now i) }
+    ensures found { IfSome result (λ i.
+        IsFirstWith (Holds source.now.0 destination.now.0) flows.now i) }
     ensures none { IfNone result (NoneHas (Holds source.now.0 destination.now.0) flows.now) }
 {
     for at in 0..flows.len() {
@@ -249,12 +275,21 @@ fn domain_of(alloc: Global, fields: Fields) -> Result<Domain, DomainError>
 /// cause than memory.
 pub fn read_domain(alloc: Global, bytes: &[u8]) -> Result<Domain, DomainError>
     requires { length bytes.now ≤ 1048576 }
-    ensures ok { IfOk result (λ d. (ms : Members) × IsDocument bytes.now ms × IsDomain ms d) }
+    ensures ok { IfOk result (λ d. IsDomainOf bytes.now d) }
     ensures err { IfErr result (λ e. TellsRefusal bytes.now e) }
-    // Whatever domain the bytes say, and whatever their first refusal is, it is the answer, unless memory is short.
-    ensures found { (ms : Members) (d : DomainValue) → IsDocument bytes.now ms → IsDomain ms d → IsAnswer result (Ok d) }
-    ensures refused { (ms : Members) (e : ErrorValue) → IsDocument bytes.now ms → IsRefusal ms e → IsAnswer result (Err e) }
-    ensures not_toml { IsNoDocument bytes.now → IsAnswer result (Err DomainError.NotToml) }
+    // Whatever domain the bytes say, and however they are refused, that is the answer, unless memory is short.
+    ensures found { (d : DomainValue) → IsDomainOf bytes.now d → IsAnswer result (Ok d) }
+    ensures refused { (e : ErrorValue) → IsDomainRefusal bytes.now e → IsAnswer result (Err e) }
+{
+    domain_law();
+    said_by(alloc, bytes)
+}
+
+// The same.
+fn said_by(alloc: Global, bytes: &[u8]) -> Result<Domain, DomainError>
+    requires { length bytes.now ≤ 1048576 }
+    ensures ok { IfOk result (λ d. IsDomainOf bytes.now d) }
+    ensures err { IfErr result (λ e. TellsRefusal bytes.now e) }
 {
     let table = match toml::table_from_slice(alloc, bytes) {
         Ok(table) => table,

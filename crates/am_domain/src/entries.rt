@@ -4,7 +4,7 @@ ghost use Rattle.std.specs.Prelude.{◌≡◌, ℕ, List, map, IfOk, IfErr, IfSo
 ghost use Rattle.std.specs.List.{AllZip};
 ghost use Rattle.toml.specs.Data.{Members, Items, array};
 ghost use Rattle.toml.specs.View.{view, table_view, items_of};
-ghost use Rattle.am_domain.specs.Entries.{TellsKey, TellsBadItem, TellsItem, TellsEntry, AreEntries, IsTableOf};
+ghost use Rattle.am_domain.specs.Entries.{TellsKey, TellsBadItem, TellsItem, TellsEntry, AreEntries, IsTableOf, data_at};
 ghost use Rattle.am_domain.specs.declared.error.Part.{Part};
 
 use crate::error::Key;
@@ -41,8 +41,6 @@ pub(crate) trait Entry: Sized {
     /// What the table says, or its first bad key.
     fn read(alloc: Global, table: &Table) -> Result<Self, KeyFault>
         ensures ok { IfOk result (λ x. says (table_view table.now) x) }
-        // It says nothing else.
-        ensures alone { IfOk result (λ x. (y : Self) → says (table_view table.now) y → y ≡ x) }
         ensures bad { IfErr result (λ e. TellsKey part (table_view table.now) e) };
 }
 
@@ -51,10 +49,8 @@ pub(crate) fn entries<T: Entry + Drop>(
     alloc: Global,
     value: Option<&Value>,
 ) -> Result<Vec<T>, EntryFault>
-    ensures ok { IfOk result (λ v. AreEntries T.says (option_map (λ x. view x.now) value.entry) v.items) }
-    // They say nothing else.
-    ensures alone { IfOk result (λ v. (ys : List T) → AreEntries T.says (option_map (λ x. view x.now) value.entry) ys → ys ≡ v.items) }
-    ensures bad { IfErr result (λ e. TellsEntry T.part T.says (option_map (λ x. view x.now) value.entry) e) }
+    ensures ok { IfOk result (λ v. AreEntries T.says (data_at value.entry) v.items) }
+    ensures bad { IfErr result (λ e. TellsEntry T.part T.says (data_at value.entry) e) }
 {
     let Some(items) = array_in(value) else {
         return Err(EntryFault::Bad {
@@ -76,8 +72,9 @@ pub(crate) fn entries<T: Entry + Drop>(
 
 // The items of an array. None where the value is none.
 fn array_in(value: Option<&Value>) -> Option<&[Value]>
-    ensures only { IfSome result (λ items. option_map (λ x. view x.now) value.entry ≡ Some (array (items_of (map view items.now)))) }
-    ensures none { IfNone result ((ds : Items) → option_map (λ x. view x.now) value.entry ≡ Some (array ds) → ⊥) }
+    ensures only { IfSome result (λ items.
+        data_at value.entry ≡ Some (array (items_of (map view items.now)))) }
+    ensures none { IfNone result ((ds : Items) → data_at value.entry ≡ Some (array ds) → ⊥) }
 {
     let Some(value) = value else {
         return None;
@@ -91,7 +88,6 @@ fn array_in(value: Option<&Value>) -> Option<&[Value]>
 // What each item says, or the first bad one.
 fn read_items<T: Entry + Drop>(alloc: Global, items: &[Value]) -> Result<Vec<T>, EntryFault>
     ensures ok { IfOk result (λ v. AllZip (IsTableOf T.says) (map view items.now) v.items) }
-    ensures alone { IfOk result (λ v. (ys : List T) → AllZip (IsTableOf T.says) (map view items.now) ys → ys ≡ v.items) }
     ensures bad { IfErr result (λ e. TellsItem T.part T.says (map view items.now) e) }
 {
     let mut read = Vec::new(alloc);
@@ -103,6 +99,7 @@ fn read_items<T: Entry + Drop>(alloc: Global, items: &[Value]) -> Result<Vec<T>,
                 };
             }
             Err(ItemFault::Bad(key)) => {
+                // The place always fits: see `too_many` in `judge`.
                 let Ok(index) = u32::try_from(i) else {
                     return Err(EntryFault::Memory);
                 };
@@ -120,7 +117,6 @@ fn read_items<T: Entry + Drop>(alloc: Global, items: &[Value]) -> Result<Vec<T>,
 // What an item says, which has to be a table.
 fn read_item<T: Entry + Drop>(alloc: Global, item: &Value) -> Result<T, ItemFault>
     ensures ok { IfOk result (λ x. IsTableOf T.says (view item.now) x) }
-    ensures alone { IfOk result (λ x. (y : T) → IsTableOf T.says (view item.now) y → y ≡ x) }
     ensures bad { IfErr result (λ e. TellsBadItem T.part (view item.now) e) }
 {
     let Value::Table(table) = item else {

@@ -2,10 +2,8 @@
 
 ghost use Rattle.std.specs.Prelude.{◌≡◌, ℕ, List, IfOk, IfErr};
 ghost use Rattle.toml.specs.View.{table_view};
-ghost use Rattle.am_domain.specs.Tables.{IsBadKey, SaysFlow, SaysNode, SaysLink};
-ghost use Rattle.am_domain.specs.Entries.{AreEntries};
-ghost use Rattle.am_domain.specs.Fields.{FieldsValue, at_part, SaysTimes, SaysMarking, IsTableAt, Says, TellsPart, TellsField};
-ghost use Rattle.am_domain.specs.Values.{FlowValue, NodeValue, LinkValue};
+ghost use Rattle.am_domain.specs.Tables.{IsBadKey};
+ghost use Rattle.am_domain.specs.Fields.{SaysTimes, SaysMarking, TimingSays, MarkingSays, FlowsSay, NodesSay, LinksSay, Says, TellsPart, TellsField};
 ghost use Rattle.am_domain.specs.declared.error.Part.TheVariants as part;
 
 use crate::entries::{EntryFault, entries};
@@ -67,14 +65,18 @@ impl Model for Fields {
 
     ghost Value = { FieldsValue };
 
-    ghost view = { λ f. record { times = f.times; marking = f.marking; flows = f.flows.items; nodes = f.nodes.items; links = f.links.items } };
+    ghost view = { λ f. record {
+      times = f.times;
+      marking = f.marking;
+      flows = f.flows.items;
+      nodes = f.nodes.items;
+      links = f.links.items;
+    } };
 }
 
 /// What the document says, or its first bad part.
 pub(crate) fn read_fields(alloc: Global, table: &Table) -> Result<Fields, DomainError>
     ensures ok { IfOk result (λ f. Says (table_view table.now) f) }
-    // It says nothing else.
-    ensures alone { IfOk result (λ f. (g : FieldsValue) → Says (table_view table.now) g → g ≡ f) }
     ensures bad { IfErr result (λ e. TellsField (table_view table.now) e) }
 {
     let times = match read_times(table) {
@@ -115,7 +117,7 @@ pub(crate) fn read_fields(alloc: Global, table: &Table) -> Result<Fields, Domain
 
 // The numbers that the part `timing` says.
 fn read_times(table: &Table) -> Result<Times, DomainError>
-    ensures ok { IfOk result (λ t. IsTableAt SaysTimes (at_part (table_view table.now) part.Timing) t) }
+    ensures ok { IfOk result (λ t. TimingSays (table_view table.now) t) }
     ensures bad { IfErr result (λ e. TellsPart (table_view table.now) part.Timing e) }
 {
     let part = Part::Timing;
@@ -166,7 +168,7 @@ fn times_in(timing: &Table) -> Result<Times, Key>
 
 // What the part `marking` says.
 fn read_marking(table: &Table) -> Result<Marking, DomainError>
-    ensures ok { IfOk result (λ m. IsTableAt SaysMarking (at_part (table_view table.now) part.Marking) m) }
+    ensures ok { IfOk result (λ m. MarkingSays (table_view table.now) m) }
     ensures bad { IfErr result (λ e. TellsPart (table_view table.now) part.Marking e) }
 {
     let part = Part::Marking;
@@ -206,8 +208,7 @@ fn marking_in(marking: &Table) -> Result<Marking, Key>
 
 // The flows that the file says.
 fn read_flows(alloc: Global, table: &Table) -> Result<Vec<Flow>, DomainError>
-    ensures ok { IfOk result (λ v. AreEntries SaysFlow (at_part (table_view table.now) part.Flow) v.items) }
-    ensures alone { IfOk result (λ v. (ys : List FlowValue) → AreEntries SaysFlow (at_part (table_view table.now) part.Flow) ys → ys ≡ v.items) }
+    ensures ok { IfOk result (λ v. FlowsSay (table_view table.now) v.items) }
     ensures bad { IfErr result (λ e. TellsPart (table_view table.now) part.Flow e) }
 {
     match entries::<Flow>(alloc, value_at(table, "flow")) {
@@ -223,8 +224,7 @@ fn read_flows(alloc: Global, table: &Table) -> Result<Vec<Flow>, DomainError>
 
 // The nodes that the file says.
 fn read_nodes(alloc: Global, table: &Table) -> Result<Vec<Node>, DomainError>
-    ensures ok { IfOk result (λ v. AreEntries SaysNode (at_part (table_view table.now) part.Node) v.items) }
-    ensures alone { IfOk result (λ v. (ys : List NodeValue) → AreEntries SaysNode (at_part (table_view table.now) part.Node) ys → ys ≡ v.items) }
+    ensures ok { IfOk result (λ v. NodesSay (table_view table.now) v.items) }
     ensures bad { IfErr result (λ e. TellsPart (table_view table.now) part.Node e) }
 {
     match entries::<Node>(alloc, value_at(table, "node")) {
@@ -240,8 +240,7 @@ fn read_nodes(alloc: Global, table: &Table) -> Result<Vec<Node>, DomainError>
 
 // The links that the file says.
 fn read_links(alloc: Global, table: &Table) -> Result<Vec<Link>, DomainError>
-    ensures ok { IfOk result (λ v. AreEntries SaysLink (at_part (table_view table.now) part.Link) v.items) }
-    ensures alone { IfOk result (λ v. (ys : List LinkValue) → AreEntries SaysLink (at_part (table_view table.now) part.Link) ys → ys ≡ v.items) }
+    ensures ok { IfOk result (λ v. LinksSay (table_view table.now) v.items) }
     ensures bad { IfErr result (λ e. TellsPart (table_view table.now) part.Link e) }
 {
     match entries::<Link>(alloc, value_at(table, "link")) {

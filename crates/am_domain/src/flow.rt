@@ -31,7 +31,12 @@ impl Model for Flow {
 
     ghost Value = { FlowValue };
 
-    ghost view = { λ f. record { name = string_bytes f.name; id = f.id; source = f.source; destination = f.destination } };
+    ghost view = { λ f. record {
+      name = string_bytes f.name;
+      id = f.id;
+      source = f.source;
+      destination = f.destination;
+    } };
 }
 
 impl Flow {

@@ -48,7 +48,11 @@ pub(crate) fn check_counts(fields: &Fields) -> Result<(), DomainError>
     Ok(())
 }
 
-// The refusal of so many. No file within its limit has so many tables that their count does not fit.
+// The refusal of so many.
+//
+// The count always fits: a domain file has at most 1,048,576 bytes, and each table takes one at least. But no clause
+// of `toml` bounds how many items it reads from so many bytes, so the prover can't see it. Where the count didn't
+// fit, the answer would be want of memory.
 fn too_many(part: Part, count: usize) -> DomainError
     ensures { TellsMany part count result }
 {
@@ -91,7 +95,8 @@ pub(crate) fn check_repeats(fields: &Fields) -> Result<(), DomainError>
 /// The links by the numbers of their nodes, where each end is a node.
 pub(crate) fn check_ends(alloc: Global, fields: &Fields) -> Result<Vec<Edge>, DomainError>
     requires { KeepsFirst fields.now 7 }
-    ensures joined { IfOk result (λ edges. AllZip (Joins fields.now.nodes) fields.now.links edges.items) }
+    ensures joined { IfOk result (λ edges.
+        AllZip (Joins fields.now.nodes) fields.now.links edges.items) }
     ensures ok { OnOk result (KeepsFirst fields.now 8) }
     ensures err { IfErr result (λ e. TellsBroken fields.now e) }
 {

@@ -77,7 +77,8 @@ pub(crate) fn self_link(links: &[Link]) -> Option<usize>
 
 /// The first node at which no link begins or ends.
 pub(crate) fn lone_node(nodes: &[Node], links: &[Link]) -> Option<usize>
-    ensures found { IfSome result (λ i. IsFirstPlace (HasLink links.now) (IsLone links.now) nodes.now i) }
+    ensures found { IfSome result (λ i.
+        IsFirstPlace (HasLink links.now) (IsLone links.now) nodes.now i) }
     ensures none { IfNone result (Each (HasLink links.now) nodes.now) }
 {
     for i in 0..nodes.len() {
@@ -92,7 +93,8 @@ pub(crate) fn lone_node(nodes: &[Node], links: &[Link]) -> Option<usize>
 // The first link that begins or ends at a node of this name.
 fn link_at(links: &[Link], name: &str) -> Option<usize>
     ensures within { IfSome result (λ i. i < length links.now) }
-    ensures found { IfSome result (λ i. (d : LinkValue) → IsAt name.now (slice_index_or links.now i d)) }
+    ensures found { IfSome result (λ i.
+        (d : LinkValue) → IsAt name.now (slice_index_or links.now i d)) }
     ensures none { IfNone result (AllBelow (λ l. ¬ IsAt name.now l) (length links.now) links.now) }
 {
     for i in 0..links.len() {

@@ -30,7 +30,12 @@ impl Model for Node {
 
     ghost Value = { NodeValue };
 
-    ghost view = { λ n. record { name = string_bytes n.name; capture = string_bytes n.capture; from = n.from; until = n.until } };
+    ghost view = { λ n. record {
+      name = string_bytes n.name;
+      capture = string_bytes n.capture;
+      from = n.from;
+      until = n.until;
+    } };
 }
 
 impl Node {

@@ -82,8 +82,11 @@ pub(crate) fn repeated<T, S: Sameness<T>>(items: &[T]) -> Option<(usize, usize)>
 // The first place before this one whose item is the same.
 fn same_before<T, S: Sameness<T>>(items: &[T], second: usize) -> Option<usize>
     requires { second < length items.now }
-    ensures found { IfSome result (λ first. (first < second) × ((d : T) → S.same (slice_index_or items.now first d) (slice_index_or items.now second d))) }
-    ensures none { IfNone result ((d : T) → AllBelow (λ x. ¬ S.same x (slice_index_or items.now second d)) second items.now) }
+    ensures before { IfSome result (λ first. first < second) }
+    ensures found { IfSome result (λ first. (d : T)
+        → S.same (slice_index_or items.now first d) (slice_index_or items.now second d)) }
+    ensures none { IfNone result ((d : T)
+        → AllBelow (λ x. ¬ S.same x (slice_index_or items.now second d)) second items.now) }
 {
     let item = &items[second];
     for first in 0..second {

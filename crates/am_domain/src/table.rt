@@ -2,10 +2,10 @@
 
 ghost use Rattle.std.specs.Prelude.{◌≡◌, ℕ, ◌≤◌, List, IfSome, IfNone, IsTrue, ◌↔◌, Option, Some, option_map, option_copied};
 ghost use Rattle.std.specs.List.{list_all};
-ghost use Rattle.toml.specs.Data.{Data, Members, get_member, table as table_data};
+ghost use Rattle.toml.specs.Data.{Members, table as table_data};
 ghost use Rattle.toml.specs.View.{view, table_view};
 ghost use Rattle.am_addr.specs.Bits.{Span};
-ghost use Rattle.am_domain.specs.Texts.{IsName, IsFileName, is_name_byte, is_file_byte, natural, text_of, IsNumberAt, IsNameAt, IsFileNameAt, IsPrefixAt, IsIdAt, IsReadingAt, IsWorkersAt, IsPlaceAt};
+ghost use Rattle.am_domain.specs.Texts.{at_text, IsName, IsFileName, is_name_byte, is_file_byte, natural, text_of, IsNumberAt, IsNameAt, IsFileNameAt, IsPrefixAt, IsIdAt, IsReadingAt, IsWorkersAt, IsPlaceAt};
 ghost use Rattle.am_ip6.specs.declared.marks.Place.{Place as Kind};
 
 use am_addr::Prefix;
@@ -20,16 +20,16 @@ const LAST_ID: u64 = 1_048_575;
 
 /// The value at a key.
 pub(crate) fn value_at<'a>(table: &'a Table, key: &str) -> Option<&'a Value>
-    ensures { option_map (λ v. view v.now) result ≡ get_member key.now (table_view table.now) }
+    ensures { option_map (λ v. view v.now) result ≡ at_text table.now key.now }
 {
     table.get(key)
 }
 
 /// The whole number of 0 or more at a key.
 pub(crate) fn number_at(table: &Table, key: &str) -> Option<u64>
-    ensures value { result ≡ natural (get_member key.now (table_view table.now)) }
-    ensures only { IfSome result (λ n. IsNumberAt (get_member key.now (table_view table.now)) n) }
-    ensures none { IfNone result ((n : ℕ) → IsNumberAt (get_member key.now (table_view table.now)) n → ⊥) }
+    ensures value { result ≡ natural (at_text table.now key.now) }
+    ensures only { IfSome result (λ n. IsNumberAt (at_text table.now key.now) n) }
+    ensures none { IfNone result ((n : ℕ) → IsNumberAt (at_text table.now key.now) n → ⊥) }
 {
     let Some(value) = value_at(table, key) else {
         return None;
@@ -42,7 +42,7 @@ pub(crate) fn number_at(table: &Table, key: &str) -> Option<u64>
 
 /// The text at a key.
 pub(crate) fn text_at<'a>(table: &'a Table, key: &str) -> Option<&'a str>
-    ensures { option_copied result ≡ text_of (get_member key.now (table_view table.now)) }
+    ensures { option_copied result ≡ text_of (at_text table.now key.now) }
 {
     let Some(value) = value_at(table, key) else {
         return None;
@@ -52,8 +52,10 @@ pub(crate) fn text_at<'a>(table: &'a Table, key: &str) -> Option<&'a str>
 
 /// The table at a key. None where none stands there.
 pub(crate) fn table_at<'a>(table: &'a Table, key: &str) -> Option<&'a Table>
-    ensures only { IfSome result (λ t. get_member key.now (table_view table.now) ≡ Some (table_data (table_view t.now))) }
-    ensures none { IfNone result ((ms : Members) → get_member key.now (table_view table.now) ≡ Some (table_data ms) → ⊥) }
+    ensures only { IfSome result (λ t.
+        at_text table.now key.now ≡ Some (table_data (table_view t.now))) }
+    ensures none { IfNone result ((ms : Members)
+        → at_text table.now key.now ≡ Some (table_data ms) → ⊥) }
 {
     let Some(value) = value_at(table, key) else {
         return None;
@@ -119,8 +121,8 @@ fn is_file_name(text: &str) -> bool
 
 /// The name at a key. None where none stands there.
 pub(crate) fn name_at<'a>(table: &'a Table, key: &str) -> Option<&'a str>
-    ensures only { IfSome result (λ s. IsNameAt (get_member key.now (table_view table.now)) s.now) }
-    ensures none { IfNone result ((s : List ℕ) → IsNameAt (get_member key.now (table_view table.now)) s → ⊥) }
+    ensures only { IfSome result (λ s. IsNameAt (at_text table.now key.now) s.now) }
+    ensures none { IfNone result ((s : List ℕ) → IsNameAt (at_text table.now key.now) s → ⊥) }
 {
     let Some(text) = text_at(table, key) else {
         return None;
@@ -133,8 +135,8 @@ pub(crate) fn name_at<'a>(table: &'a Table, key: &str) -> Option<&'a str>
 
 /// The name of a file at a key. None where none stands there.
 pub(crate) fn file_name_at<'a>(table: &'a Table, key: &str) -> Option<&'a str>
-    ensures only { IfSome result (λ s. IsFileNameAt (get_member key.now (table_view table.now)) s.now) }
-    ensures none { IfNone result ((s : List ℕ) → IsFileNameAt (get_member key.now (table_view table.now)) s → ⊥) }
+    ensures only { IfSome result (λ s. IsFileNameAt (at_text table.now key.now) s.now) }
+    ensures none { IfNone result ((s : List ℕ) → IsFileNameAt (at_text table.now key.now) s → ⊥) }
 {
     let Some(text) = text_at(table, key) else {
         return None;
@@ -147,10 +149,8 @@ pub(crate) fn file_name_at<'a>(table: &'a Table, key: &str) -> Option<&'a str>
 
 /// The prefix at a key. None where the text of none stands there.
 pub(crate) fn prefix_at(table: &Table, key: &str) -> Option<Prefix>
-    ensures only { IfSome result (λ p. IsPrefixAt (get_member key.now (table_view table.now)) p) }
-    ensures none { IfNone result ((span : Span) → IsPrefixAt (get_member key.now (table_view table.now)) span → ⊥) }
-    // No other prefix stands there.
-    ensures alone { IfSome result (λ p. (span : Span) → IsPrefixAt (get_member key.now (table_view table.now)) span → span ≡ p) }
+    ensures only { IfSome result (λ p. IsPrefixAt (at_text table.now key.now) p) }
+    ensures none { IfNone result ((span : Span) → IsPrefixAt (at_text table.now key.now) span → ⊥) }
 {
     let Some(text) = text_at(table, key) else {
         return None;
@@ -163,8 +163,8 @@ pub(crate) fn prefix_at(table: &Table, key: &str) -> Option<Prefix>
 
 /// The number of a flow at a key. None where none stands there.
 pub(crate) fn id_at(table: &Table, key: &str) -> Option<u32>
-    ensures only { IfSome result (λ n. IsIdAt (get_member key.now (table_view table.now)) n) }
-    ensures none { IfNone result ((n : ℕ) → IsIdAt (get_member key.now (table_view table.now)) n → ⊥) }
+    ensures only { IfSome result (λ n. IsIdAt (at_text table.now key.now) n) }
+    ensures none { IfNone result ((n : ℕ) → IsIdAt (at_text table.now key.now) n → ⊥) }
 {
     let Some(number) = number_at(table, key) else {
         return None;
@@ -177,8 +177,8 @@ pub(crate) fn id_at(table: &Table, key: &str) -> Option<u32>
 
 /// The reading at a key, in nanoseconds. None where none stands there.
 pub(crate) fn reading_at(table: &Table, key: &str) -> Option<u64>
-    ensures only { IfSome result (λ n. IsReadingAt (get_member key.now (table_view table.now)) n) }
-    ensures none { IfNone result ((n : ℕ) → IsReadingAt (get_member key.now (table_view table.now)) n → ⊥) }
+    ensures only { IfSome result (λ n. IsReadingAt (at_text table.now key.now) n) }
+    ensures none { IfNone result ((n : ℕ) → IsReadingAt (at_text table.now key.now) n → ⊥) }
 {
     let Some(number) = number_at(table, key) else {
         return None;
@@ -191,8 +191,8 @@ pub(crate) fn reading_at(table: &Table, key: &str) -> Option<u64>
 
 /// The number of workers at a key, which is 1 where nothing stands there. None where it is none.
 pub(crate) fn workers_at(table: &Table, key: &str) -> Option<u32>
-    ensures only { IfSome result (λ n. IsWorkersAt (get_member key.now (table_view table.now)) n) }
-    ensures none { IfNone result ((n : ℕ) → IsWorkersAt (get_member key.now (table_view table.now)) n → ⊥) }
+    ensures only { IfSome result (λ n. IsWorkersAt (at_text table.now key.now) n) }
+    ensures none { IfNone result ((n : ℕ) → IsWorkersAt (at_text table.now key.now) n → ⊥) }
 {
     if value_at(table, key).is_none() {
         return Some(1);
@@ -211,8 +211,8 @@ pub(crate) fn workers_at(table: &Table, key: &str) -> Option<u32>
 
 /// The kind of header at a key. None where none stands there.
 pub(crate) fn place_at(table: &Table, key: &str) -> Option<Place>
-    ensures only { IfSome result (λ p. IsPlaceAt (get_member key.now (table_view table.now)) p) }
-    ensures none { IfNone result ((p : Kind) → IsPlaceAt (get_member key.now (table_view table.now)) p → ⊥) }
+    ensures only { IfSome result (λ p. IsPlaceAt (at_text table.now key.now) p) }
+    ensures none { IfNone result ((p : Kind) → IsPlaceAt (at_text table.now key.now) p → ⊥) }
 {
     let Some(text) = text_at(table, key) else {
         return None;

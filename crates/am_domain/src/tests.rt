@@ -380,3 +380,63 @@ fn too_many_nodes(rt: HostRuntime) -> Result<(), Fail> {
     );
     Ok(())
 }
+
+#[test]
+fn refusals_are_said(rt: HostRuntime) -> Result<(), Fail> {
+    let alloc = rt.alloc();
+    for (error, wanted) in [
+        (
+            DomainError::BadField {
+                part: Part::Node,
+                index: Some(1),
+                key: Some(Key::UntilNs),
+            },
+            "bad field node[1].until_ns",
+        ),
+        (
+            DomainError::BadField {
+                part: Part::Top,
+                index: None,
+                key: Some(Key::Unknown),
+            },
+            "bad field ?",
+        ),
+        (
+            DomainError::Timing(TimingError::GuardTooWide {
+                guard: 6_000_000_000,
+                half: 5_000_000_000,
+            }),
+            "guard 6000000000 is not below half 5000000000",
+        ),
+        (
+            DomainError::TooMany {
+                part: Part::Link,
+                count: 1025,
+            },
+            "too many links: 1025",
+        ),
+        (
+            DomainError::Twice {
+                what: Repeated::FlowId,
+                first: 0,
+                second: 2,
+            },
+            "flow[2].id repeats flow[0].id",
+        ),
+        (
+            DomainError::UnknownNode {
+                link: 3,
+                end: Key::To,
+            },
+            "link[3].to is no node",
+        ),
+        (
+            DomainError::NoBlock { first: 9, end: 4 },
+            "no block is covered: first 9 end 4",
+        ),
+    ] {
+        let said = format!(in alloc; "{error}")?;
+        assert_eq!(rt; said.as_str(), wanted);
+    }
+    Ok(())
+}

@@ -5,5 +5,6 @@ pub mod LeftLemmas
 pub mod MarkLemmas
 pub mod SeenLemmas
 pub mod Yields
+pub mod Lone
 pub mod SeenOnce
 pub mod Exists

@@ -1,8 +1,9 @@
 -- The mark that a packet carries in one kind of header (RFC 9343, section 4).
-use Rattle.std.specs.Prelude.{◌≡◌, ◌≢◌, ◌⊎◌, ℕ, ◌+◌, ◌<◌, Bool, List, ◌∷◌, ◌++◌, length, drop, All, slice_index}
+use Rattle.std.specs.Prelude.{◌≡◌, ◌≢◌, ◌⊎◌, ℕ, ◌+◌, ◌<◌, ◌≤◌, Bool, List, ◌∷◌, ◌++◌, length, take, drop, All, slice_index, Option, MatchOption}
 use Rattle.am_opts.specs.Marking.{Marking, Spells}
-use Rattle.am_opts.specs.Options.{Placed, IsOptionsOf}
-use Rattle.am_ip6.specs.Chains.{Lent}
+use Rattle.am_opts.specs.Options.{Placed, IsOptionsOf, StopsAt}
+use Rattle.am_ip6.specs.Fixed.{payload_of}
+use Rattle.am_ip6.specs.Chains.{Lent, HasOptions}
 use Rattle.am_ip6.specs.Endings.{Ended}
 use Rattle.am_ip6.specs.Endings.Ended.{WasCut}
 
@@ -35,6 +36,25 @@ pub record MarksHeader (h : Lent) (mark : Marking) (at : ℕ) : Type 0 where
 -- no option of a header is a mark
 abbrev pub IsUnmarkedHeader : Lent → Type 0
 IsUnmarkedHeader h = HasNoMark (drop 2 h.bytes)
+
+-- the first mark in a header, if it has one; in a Routing header, which has no options, none is looked for
+abbrev pub ShowsMark : Lent → Option (Marking × ℕ) → Type 0
+ShowsMark h found = h.kind ≢ 43 → MatchOption found (IsUnmarkedHeader h) (λ m. MarksHeader h m.0 m.1)
+
+-- a header of options, which are an option list no further than this place in the packet
+pub record BreaksAt (h : Lent) (place : ℕ) : Type 0 where
+  pub kind : h.kind ≢ 43
+  pub fault : ℕ
+  pub stops : StopsAt (drop 2 h.bytes) fault
+  pub bad : HasOptions h.bytes → ⊥
+  pub place_is : place ≡ h.at + 2 + fault
+
+-- the first header of a packet has eight bytes, and its one option is this mark
+pub record HasLoneMark (packet : List ℕ) (mark : Marking) : Type 0 where
+  pub there : 48 ≤ length packet
+  pub payload : 8 ≤ payload_of packet
+  pub size : slice_index packet 41 ≡ 0
+  pub spelled : Spells (take 6 (drop 42 packet)) mark
 
 -- a header that isn't of this kind, or has no mark
 abbrev pub IsPassed : ℕ → Lent → Type 0

@@ -4,16 +4,17 @@
 //! Options. Each begins with Next Header, which announces what follows, and Hdr Ext Len, which counts the
 //! header's bytes in units of 8 behind the first 8. Whatever else is announced ends the chain.
 
-ghost use Rattle.std.specs.Prelude.{◌≡◌, ◌≢◌, ◌+◌, ◌≤◌, ◌↔◌, List, IsTrue, IfOk, OnOk, IfErr, OnErr, IfSome, IfNone, MatchOption, MatchResult, take, drop, length, min};
+ghost use Rattle.std.specs.Prelude.{◌≡◌, ◌+◌, ◌^◌, ◌<◌, ◌≤◌, IfOk, OnOk, IfErr, OnErr, IfSome, MatchOption, take, drop, length};
 ghost use Rattle.std.specs.Bool.{MatchBool};
-ghost use Rattle.am_opts.specs.Options.{StopsAt};
 ghost use Rattle.am_ip6.specs.Fixed.{IsFixed, limit_of, parts_of};
-ghost use Rattle.am_ip6.specs.Chains.{IsWalked, FitsAt, HasOptions, Stands, first_spot, spot_behind, header_length};
+ghost use Rattle.am_ip6.specs.Chains.{IsWalked, FitsAt, Stands, first_spot, spot_behind, header_length};
 ghost use Rattle.am_ip6.specs.Endings.{IsOtherVersion, LacksBytes, MayBeCut, EndsAt, EndsEarly};
+ghost use Rattle.am_ip6.specs.Marks.{ShowsMark, BreaksAt};
 ghost use Rattle.am_ip6.specs.Shown.{lent, spot_shown, ending_shown};
 
 use crate::fixed_header::{FIXED_LENGTH, VERSION, begins_with_fixed, payload};
-use am_opts::check_options;
+use crate::options::first_mark;
+use am_opts::Mark;
 
 // Hop-by-Hop Options (RFC 8200, section 4.3).
 pub(crate) const HOP_BY_HOP: u8 = 0;
@@ -104,20 +105,19 @@ fn is_other_version(bytes: &[u8]) -> bool
     bytes.len() > 0 && bytes[0] / 16 != VERSION
 }
 
-// The header at this spot and what it announces, or how the walk ends here.
+// The header at this spot, the first mark among its options, and what it announces; or how the walk ends here.
 pub(crate) fn step<'a>(
     bytes: &'a [u8],
     whole: bool,
     spot: Announced,
-) -> Result<(Header<'a>, Announced), Ending>
+) -> Result<(Header<'a>, Option<(Mark, usize)>, Announced), Ending>
     requires fixed { IsFixed bytes.now }
     requires within { spot.at ≤ limit_of bytes.now }
     ensures stands { IfOk result (λ r. Stands bytes.now (spot_shown spot) (lent r.0)) }
-    ensures behind { IfOk result (λ r. spot_shown r.1 ≡ spot_behind bytes.now (lent r.0)) }
-    ensures on { IfOk result (λ r. spot.at + 8 ≤ r.1.at) }
-    ensures within { IfOk result (λ r. r.1.at ≤ limit_of bytes.now) }
-    ensures room { IfOk result (λ r. (2 ≤ length r.0.bytes.now) × (length r.0.bytes.now ≤ 2048)) }
-    ensures there { IfOk result (λ r. r.0.at + length r.0.bytes.now ≤ length bytes.now) }
+    ensures mark { IfOk result (λ r. ShowsMark (lent r.0) r.1) }
+    ensures behind { IfOk result (λ r. spot_shown r.2 ≡ spot_behind bytes.now (lent r.0)) }
+    ensures on { IfOk result (λ r. spot.at + 8 ≤ r.2.at) }
+    ensures within { IfOk result (λ r. r.2.at ≤ limit_of bytes.now) }
     ensures ends { IfErr result (λ e. EndsAt bytes.now whole (spot_shown spot) (ending_shown e)) }
 {
     let Announced { kind, at, told_at } = spot;
@@ -131,26 +131,23 @@ pub(crate) fn step<'a>(
     let Some(size) = size_at(bytes, at) else {
         return Err(lacking(bytes, whole, spot));
     };
-    let header = part(bytes, at, size);
-    if kind != ROUTING {
-        if let Some(fault) = options_fault(header) {
-            return Err(Ending::Malformed {
-                place: at + 2 + fault,
-            });
-        }
+    let header = Header {
+        kind,
+        at,
+        bytes: part(bytes, at, size),
+    };
+    match mark_in(header) {
+        Ok(mark) => Ok((
+            header,
+            mark,
+            Announced {
+                kind: bytes[at],
+                at: at + size,
+                told_at: at,
+            },
+        )),
+        Err(place) => Err(Ending::Malformed { place }),
     }
-    Ok((
-        Header {
-            kind,
-            at,
-            bytes: header,
-        },
-        Announced {
-            kind: bytes[at],
-            at: at + size,
-            told_at: at,
-        },
-    ))
 }
 
 // Whether a header of this number is walked at this place.
@@ -220,17 +217,22 @@ fn part<'a>(bytes: &'a [u8], at: usize, size: usize) -> &'a [u8]
     front
 }
 
-// The place, behind a header's first two bytes, of what isn't an option. None where all are.
-fn options_fault(header: &[u8]) -> Option<usize>
-    requires least { 2 ≤ length header.now }
-    requires most { length header.now ≤ 2048 }
-    ensures none { IfNone result (HasOptions header.now) }
-    ensures bad { IfSome result (λ place. HasOptions header.now → ⊥) }
-    ensures place { IfSome result (λ place. StopsAt (drop 2 header.now) place) }
+// The first mark among a header's options, and its place in the packet; or the place of what isn't an option.
+// A Routing header has no options.
+fn mark_in(header: Header) -> Result<Option<(Mark, usize)>, usize>
+    requires within { header.at + length header.bytes.now < 2 ^ 63 }
+    requires least { 2 ≤ length header.bytes.now }
+    requires most { length header.bytes.now ≤ 2048 }
+    ensures mark { IfOk result (λ found. ShowsMark (lent header.entry) found) }
+    ensures bad { IfErr result (λ place. BreaksAt (lent header.entry) place) }
 {
-    let (_, area) = header.split_at(2);
-    match check_options(area) {
-        Ok(_) => None,
-        Err(fault) => Some(fault.place),
+    if header.kind == ROUTING {
+        return Ok(None);
+    }
+    let (_, area) = header.bytes.split_at(2);
+    match first_mark(area) {
+        Ok(Some((mark, at))) => Ok(Some((mark, header.at + 2 + at))),
+        Ok(None) => Ok(None),
+        Err(fault) => Err(header.at + 2 + fault),
     }
 }

@@ -64,7 +64,7 @@ impl<'a> Iterator for Walk<'a> {
             return None;
         };
         match step(self.bytes, self.whole, spot) {
-            Ok((header, behind)) => {
+            Ok((header, _, behind)) => {
                 self.spot = Some(behind);
                 Some(header)
             }
@@ -87,7 +87,7 @@ pub fn walk_ending(bytes: &[u8], whole: bool) -> Ending
     };
     loop {
         match step(bytes, whole, spot) {
-            Ok((_, behind)) => spot = behind,
+            Ok((_, _, behind)) => spot = behind,
             Err(ending) => return ending,
         }
     }

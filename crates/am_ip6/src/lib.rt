@@ -15,6 +15,7 @@ mod fixed_header;
 mod headers;
 mod laws;
 mod marks;
+mod options;
 #[cfg(test)]
 mod tests;
 

@@ -3,17 +3,20 @@
 //! A mark stands in a Hop-by-Hop Options header, or in a Destination Options header. The first one in
 //! headers of the wanted kind counts.
 
-ghost use Rattle.std.specs.Prelude.{◌≡◌, ◌≢◌, ◌+◌, ◌^◌, ◌<◌, ◌≤◌, List, length, drop, IfSome, IfNone, MatchOption};
-ghost use Rattle.am_opts.specs.Marking.{Marking, Spells};
-ghost use Rattle.am_opts.specs.Options.{IsOption, IsOptionList};
-ghost use Rattle.am_ip6.specs.Chains.{HasOptions};
-ghost use Rattle.am_ip6.specs.Marks.{Seen, HasMark, HasNoMark, MarksHeader, IsPassed};
+ghost use Rattle.std.specs.Prelude.{◌≡◌, ◌≢◌, ◌≤◌, length, IfSome, MatchOption};
+ghost use Rattle.am_ip6.specs.Marks.{Seen, HasLoneMark, ShowsMark, MarksHeader, IsPassed};
 ghost use Rattle.am_ip6.specs.Shown.{lent, ending_shown};
 ghost use Rattle.am_ip6.specs.Seen.{seen_shown, IsUnlessCut, SeenInEach, IsSeen};
 
 use crate::chain::{DESTINATION, Ending, HOP_BY_HOP, Header, start, step};
+use crate::fixed_header::{begins_with_fixed, payload};
 use crate::laws::{seen_law, walk_law};
-use am_opts::{Mark, Options, decode_mark};
+use am_opts::{Mark, decode_mark};
+
+// Where a mark stands that is the one option of the first header, and where it ends.
+const LONE_MARK_AT: usize = 42;
+
+const LONE_MARK_END: usize = 48;
 
 /// The kind of header that marks stand in.
 #[derive(Clone, Copy, Debug, PartialEq, Eq)]
@@ -55,8 +58,42 @@ pub fn find_mark(bytes: &[u8], whole: bool, place: Place) -> Found
     }
 }
 
-// The first mark in the Hop-by-Hop Options header, which stands first or nowhere.
+// The first mark in the Hop-by-Hop Options header, which stands first or nowhere. A look at the first bytes
+// is enough for most packets: for those that announce another header, and for those of a lone mark.
 fn find_in_hop_by_hop(bytes: &[u8], whole: bool) -> Found
+    ensures { SeenInEach Place.HopByHop bytes.now whole (seen_shown result) }
+{
+    if begins_with_fixed(bytes) {
+        if bytes[6] != HOP_BY_HOP {
+            return Found::Unmarked;
+        }
+        if let Some(mark) = lone_mark(bytes) {
+            return Found::Marked {
+                mark,
+                at: LONE_MARK_AT,
+            };
+        }
+    }
+    walk_hop_by_hop(bytes, whole)
+}
+
+// The mark in a first header of eight bytes that has no other option.
+fn lone_mark(bytes: &[u8]) -> Option<Mark>
+    requires { 40 ≤ length bytes.now }
+    ensures { IfSome result (λ mark. HasLoneMark bytes.now mark) }
+{
+    if bytes.len() < LONE_MARK_END || bytes[41] != 0 || payload(bytes) < 8 {
+        return None;
+    }
+    let Some((mark, _)) = decode_mark(&bytes[LONE_MARK_AT..LONE_MARK_END]) else {
+        return None;
+    };
+    Some(mark)
+}
+
+// The first mark in the Hop-by-Hop Options header, by a step of the walk.
+#[inline(never)]
+fn walk_hop_by_hop(bytes: &[u8], whole: bool) -> Found
     ensures { SeenInEach Place.HopByHop bytes.now whole (seen_shown result) }
 {
     let first = match start(bytes, whole) {
@@ -67,7 +104,7 @@ fn find_in_hop_by_hop(bytes: &[u8], whole: bool) -> Found
         return Found::Unmarked;
     }
     match step(bytes, whole, first) {
-        Ok((header, _)) => match mark_in(header, HOP_BY_HOP) {
+        Ok((header, mark, _)) => match of_kind(header, mark, HOP_BY_HOP) {
             Some((mark, at)) => Found::Marked { mark, at },
             None => Found::Unmarked,
         },
@@ -85,8 +122,8 @@ fn find_in_destination(bytes: &[u8], whole: bool) -> Found
     };
     loop {
         match step(bytes, whole, spot) {
-            Ok((header, behind)) => {
-                if let Some((mark, at)) = mark_in(header, DESTINATION) {
+            Ok((header, mark, behind)) => {
+                if let Some((mark, at)) = of_kind(header, mark, DESTINATION) {
                     return Found::Marked { mark, at };
                 }
                 spot = behind;
@@ -106,46 +143,15 @@ fn unmarked(ending: Ending) -> Found
     }
 }
 
-// The first mark in a header, and the place of its option's type in the packet, if the header is of this kind.
-fn mark_in(header: Header, kind: u8) -> Option<(Mark, usize)>
-    requires within { header.at + length header.bytes.now < 2 ^ 63 }
-    requires least { 2 ≤ length header.bytes.now }
-    requires options { header.kind ≡ kind → HasOptions header.bytes.now }
+// The first mark of a header, if the header is of this kind.
+fn of_kind(header: Header, mark: Option<(Mark, usize)>, kind: u8) -> Option<(Mark, usize)>
+    requires options { kind ≢ 43 }
+    requires shown { ShowsMark (lent header) mark }
     ensures { MatchOption result (IsPassed kind (lent header.entry))
         (λ m. (header.entry.kind ≡ kind) × MarksHeader (lent header.entry) m.0 m.1) }
 {
     if header.kind != kind {
         return None;
     }
-    let (_, area) = header.bytes.split_at(2);
-    let Some((mark, at)) = first_mark(area) else {
-        return None;
-    };
-    Some((mark, header.at + 2 + at))
-}
-
-// The first mark in an option list, and the place of its option's type there.
-fn first_mark(area: &[u8]) -> Option<(Mark, usize)>
-    requires { IsOptionList area.now }
-    ensures cases { MatchOption result (HasNoMark area.now) (λ m. HasMark area.now m.0 m.1) }
-    ensures within { IfSome result (λ m. m.1 ≤ length area.now) }
-{
-    for option in Options::over(area) {
-        if let Some(mark) = spelled(option.bytes) {
-            return Some((mark, option.at));
-        }
-    }
-    None
-}
-
-// The mark that an option spells.
-fn spelled(option: &[u8]) -> Option<Mark>
-    requires { IsOption option.now }
-    ensures some { IfSome result (λ m. Spells option.now m) }
-    ensures none { IfNone result ((m : Marking) → Spells option.now m → ⊥) }
-{
-    let Some((mark, _)) = decode_mark(option) else {
-        return None;
-    };
-    Some(mark)
+    mark
 }

@@ -168,6 +168,17 @@ fn marks_are_found_in_their_kind(rt: HostRuntime) {
         seen(alloc, 16, 0, other, true, Place::HopByHop).expect(&rt, "memory"),
         None
     );
+    // in eight bytes such an option leaves the header
+    let leaves = b"\x3b\x00\x12\x05\x12\x34\x58\x00";
+    assert_eq!(rt;
+        seen(alloc, 8, 0, leaves, true, Place::HopByHop).expect(&rt, "memory"),
+        None
+    );
+    // a payload length that ends within the header
+    assert_eq!(rt;
+        seen(alloc, 7, 0, one, true, Place::HopByHop).expect(&rt, "memory"),
+        None
+    );
     // cut in the Hop-by-Hop header, and behind it
     assert_eq!(rt;
         seen(alloc, 8, 0, b"\x3b", false, Place::HopByHop).expect(&rt, "memory"),
