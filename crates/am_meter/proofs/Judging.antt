@@ -1,5 +1,5 @@
 -- Bytes that have marked records have one list of them, and are not refused.
-use Rattle.std.proofs.Common.{arith, refl, sym, ap, subst, ◌≡◌, ℕ, Bool, List, [], ◌∷◌, ◌++◌, inl, inr}
+use Rattle.std.proofs.Common.{arith, sym, subst, ◌≡◌, ℕ, Bool, List, [], ◌∷◌, ◌++◌, inl, inr}
 use Rattle.std.specs.Prelude.{Ok, Err}
 use Rattle.std.proofs.lemmas.List.{append-nil}
 use Rattle.am_ip6.specs.Marks.{Seen}
@@ -13,7 +13,7 @@ use Rattle.am_pcap.specs.declared.refusal.CapError.{CapError}
 use Rattle.am_pcap.specs.declared.head.Head.{Head}
 use Rattle.am_pcap.specs.declared.frame.LinkKind.{LinkKind}
 use Rattle.am_pcap.specs.declared.frame.Frame.{Frame}
-use Rattle.am_meter.specs.Marks.{AreMarked, IsMarkedCapture, JudgesMarks, RefusesMarks, MarksRefusal, CutsHeaders}
+use Rattle.am_meter.specs.Marks.{AreMarked, IsMarkedCapture, JudgesMarks, MarksRefusal, CutsHeaders}
 use Rattle.am_meter.specs.Marks.MarksRefusal.{Long, BadCapture, HeadersCut}
 use Rattle.am_meter.specs.declared.stream.Marked.{Marked}
 use Rattle.am_meter.proofs.Marking.{marked-once, uncut-among}

@@ -1,11 +1,8 @@
 -- The marked records of a list of packets: one more, how many they are, and that they are one list.
-use Rattle.std.proofs.Common.{arith, refl, sym, ap, subst, ◌∙◌, ◌≡◌, ◌≢◌, ℕ, ◌+◌, ◌≤◌, Bool, true, false, List, [], ◌∷◌, ◌++◌, length, drop, inl, inr, append_assoc}
-use Rattle.std.specs.Prelude.{IsTrue, nat_le}
-use Rattle.std.proofs.lemmas.Bool.Decides.{leb_tells}
-use Rattle.std.proofs.lemmas.Bool.{false≢true}
+use Rattle.std.proofs.Common.{arith, refl, sym, ap, subst, ◌∙◌, ◌≡◌, ◌≢◌, ℕ, ◌+◌, Bool, List, [], ◌∷◌, ◌++◌, length, drop, append_assoc}
 use Rattle.std.proofs.lemmas.List.{append-nil}
 use Rattle.am_ip6.specs.Marks.{Seen}
-use Rattle.am_ip6.specs.Marks.Seen.{Marks, NoMark, CutOff}
+use Rattle.am_ip6.specs.Marks.Seen.{CutOff}
 use Rattle.am_ip6.specs.Seen.{IsSeen}
 use Rattle.am_ip6.specs.declared.marks.Place.{Place}
 use Rattle.am_pcap.specs.Packets.{Packet}
@@ -95,8 +92,3 @@ module _
         → ⊥
     uncut-among place h number [] p more ms a cut = a.3 (record-once place h.link p a.0 CutOff a.2 cut)
     uncut-among place h number (q ∷ qs) p more ms a cut = uncut-among place h (number + 1) qs p more a.1 a.4 cut
-
--- a test that says whether all bytes were captured
-pub whole_is : (b : Bool) (m n : ℕ) → (IsTrue b → m ≤ n) × (m ≤ n → IsTrue b) → b ≡ nat_le m n
-whole_is true m n h = elim (leb_tells m n) [ inl t ↦ sym t.0 | inr f ↦ let le : m ≤ n = h.0 refl in absurd (omega arith) ]
-whole_is false m n h = elim (leb_tells m n) [ inl t ↦ absurd (false≢true (h.1 t.1)) | inr f ↦ sym f.0 ]

@@ -1,13 +1,12 @@
 -- A stream that goes on: what each record of its capture makes of it, and what the end and an error say.
 use Rattle.std.proofs.Common.{arith, refl, sym, ap, subst, ◌∙◌, ◌≡◌, ◌≢◌, ℕ, ◌+◌, ◌≤◌, ◌^◌, Bool, false, List, [], ◌∷◌, ◌++◌, length, Option, Some, None, inl, inr}
-use Rattle.std.specs.Prelude.{Ok, Err, Result, IfOk, IfSome}
+use Rattle.std.specs.Prelude.{Ok, Result, IfOk, IfSome}
 use Rattle.std.proofs.lemmas.List.{length-append, append-nil}
-use Rattle.am_base.specs.Shelves.{Told, IsAtEnd}
-use Rattle.am_base.specs.Files.{OnFile, KeepsFiles}
+use Rattle.am_base.specs.Shelves.{Told}
+use Rattle.am_base.specs.Files.{OnFile}
 use Rattle.am_ip6.specs.Marks.{Seen}
 use Rattle.am_ip6.specs.Marks.Seen.{Marks, NoMark, CutOff}
 use Rattle.am_ip6.specs.declared.marks.Place.{Place}
-use Rattle.am_pcap.specs.Packets.{Packet}
 use Rattle.am_pcap.specs.Readings.{Reading}
 use Rattle.am_pcap.specs.CaptureFiles.{ReadsOn, BeginsWith, IsWholeCapture, WhyStopped, IsRefusedBehind, IsLong, WhyNotOpened}
 use Rattle.am_pcap.specs.Answers.{GivesRecord, GivesError, EndsReading, StopsReading}
@@ -18,7 +17,7 @@ use Rattle.am_pcap.specs.declared.capture.FileError.{FileError}
 use Rattle.am_pcap.specs.declared.capture.FileError.TheVariants.{Missing, ReadFault, TooLong, Bad, Memory}
 use Rattle.am_meter.specs.Marks.{IsSeenIn, AreMarked, JudgesMarks, RefusesMarks}
 use Rattle.am_meter.specs.Marks.MarksRefusal.{Long, BadCapture, HeadersCut as CutAt}
-use Rattle.am_meter.specs.Streaming.{Streaming}
+use Rattle.am_meter.specs.Streaming.{Streaming, stream_of}
 use Rattle.am_meter.specs.Streams.{StreamsOn, GivesMarked, EndsStream, StopsStream, WhyStreamStopped, MayStop, WhyNotStreamed}
 use Rattle.am_meter.specs.Looks.{LooksAt, PassesOver, ShowsAs, marked_of}
 use Rattle.am_meter.specs.declared.stream.Marked.{Marked}
@@ -43,22 +42,19 @@ file-both (Some t) name P Q R f p q =
     let same : q.0 ≡ p.0 = cc (p.1, q.1) in
     (p.0, p.1, f p.0 p.2 (subst Q same q.2))
 
--- a stream whose capture is this
-abbrev pub stream_of : Place → Reading → Streaming
-stream_of place c = record { capture = c; place = place; over = false }
-
 -- one more record was read, whose headers aren't cut
 goes-on :
     (place : Place) (old new : Reading) (first before after : Option Told) (name : List ℕ) (ms more : List Marked) (l : Looked) (h : Head) (seen : Seen)
     → (x : LooksAt place old new before after l)
-    → (on : StreamsOn first before name (stream_of place old) ms)
+    → (on : StreamsOn first before name place (stream_of place old) ms)
     → AreMarked place on.head 1 (on.packets ++ x.packet ∷ []) (ms ++ more)
     → length more ≤ 1
-    → StreamsOn first after name (stream_of place new) (ms ++ more)
+    → StreamsOn first after name place (stream_of place new) (ms ++ more)
 goes-on place old new first before after name ms more l h seen x on marked one =
     let reads : ReadsOn first after name new on.head (on.packets ++ x.packet ∷ []) = x.reads first name on.head on.packets on.reads in
     record {
       goes_on = refl;
+      looks = refl;
       head = on.head;
       packets = on.packets ++ x.packet ∷ [];
       reads = reads;
@@ -66,6 +62,13 @@ goes-on place old new first before after name ms more l h seen x on marked one =
       few = omega (arith, on.few, x.next, x.count, one, length-append ms more);
       kept = reads.kept;
     }
+
+-- a stream looks in its own kind of header
+at-own :
+    (place own : Place) (first now : Option Told) (name : List ℕ) (c : Reading) (ms : List Marked)
+    → StreamsOn first now name own (stream_of place c) ms
+    → StreamsOn first now name place (stream_of place c) ms
+at-own place own first now name c ms on = subst (λ q. StreamsOn first now name q (stream_of place c) ms) (sym on.looks) on
 
 -- of one capture, its header
 one-head : (c : Reading) (h k : Head) → c.decoded.summary.head ≡ Some h → c.decoded.summary.head ≡ Some k → h ≡ k
@@ -75,7 +78,7 @@ one-head c h k p q = cc (p, q)
 shown-at :
     (place : Place) (old new : Reading) (first before after : Option Told) (name : List ℕ) (ms : List Marked) (l : Looked)
     → (x : LooksAt place old new before after l)
-    → (on : StreamsOn first before name (stream_of place old) ms)
+    → (on : StreamsOn first before name place (stream_of place old) ms)
     → ShowsAs place on.head x.number x.packet l
 shown-at place old new first before after name ms l x on =
     subst (λ h. ShowsAs place h x.number x.packet l) (one-head old x.head on.head x.head_is on.reads.head) x.shows
@@ -84,7 +87,7 @@ shown-at place old new first before after name ms l x on =
 numbered :
     (place : Place) (old new : Reading) (first before after : Option Told) (name : List ℕ) (ms : List Marked) (l : Looked)
     → (x : LooksAt place old new before after l)
-    → (on : StreamsOn first before name (stream_of place old) ms)
+    → (on : StreamsOn first before name place (stream_of place old) ms)
     → x.number ≡ 1 + length on.packets
 numbered place old new first before after name ms l x on = omega (arith, x.next, on.reads.counted)
 
@@ -98,14 +101,14 @@ none-not_cut h = cc (h)
 over-one :
     (place : Place) (now new : Reading) (first mid after : Option Told) (name : List ℕ) (ms : List Marked)
     → LooksAt place now new mid after looked.Unmarked
-    → StreamsOn first mid name (stream_of place now) ms
-    → StreamsOn first after name (stream_of place new) ms
+    → StreamsOn first mid name place (stream_of place now) ms
+    → StreamsOn first after name place (stream_of place new) ms
 over-one place now new first mid after name ms x on =
     let shows : IsSeenIn place on.head.link x.packet NoMark = shown-at place now new first mid after name ms looked.Unmarked x on in
     let marked : AreMarked place on.head 1 (on.packets ++ x.packet ∷ []) (ms ++ []) =
     AreMarked-more place on.head 1 on.packets ms x.packet NoMark x.number on.marked shows none-not_cut
     (numbered place now new first mid after name ms looked.Unmarked x on) in
-    subst (λ ns. StreamsOn first after name (stream_of place new) ns) (append-nil ms)
+    subst (λ ns. StreamsOn first after name place (stream_of place new) ns) (append-nil ms)
     (goes-on place now new first mid after name ms [] looked.Unmarked on.head NoMark x on marked (omega arith))
 
 pub passes-none : (place : Place) (old : Reading) (before : Option Told) → old.over ≡ false → PassesOver place old old before before
@@ -126,8 +129,8 @@ passes-one place old now new before mid after p x = record {
 marks-one :
     (place : Place) (now new : Reading) (first mid after : Option Told) (name : List ℕ) (ms : List Marked) (m : Marked)
     → LooksAt place now new mid after (looked.Marked m)
-    → StreamsOn first mid name (stream_of place now) ms
-    → StreamsOn first after name (stream_of place new) (ms ++ m ∷ [])
+    → StreamsOn first mid name place (stream_of place now) ms
+    → StreamsOn first after name place (stream_of place new) (ms ++ m ∷ [])
 marks-one place now new first mid after name ms m x on =
     let shows = shown-at place now new first mid after name ms (looked.Marked m) x on in
     let marked : AreMarked place on.head 1 (on.packets ++ x.packet ∷ []) (ms ++ marked_of on.head x.number x.packet m ∷ []) =
@@ -151,8 +154,9 @@ gives place old now new before mid after m p x =
       few = omega (arith, number, x.few);
       passes = x.count ∙ sym number;
       goes_on = refl;
-      place = refl;
-      streams = λ first name ms on. marks-one place now new first mid after name ms m x (p.streams first name ms on);
+      streams = λ first name own ms on.
+          subst (λ q. StreamsOn first after name q (stream_of place new) (ms ++ m ∷ [])) on.looks
+          (marks-one place now new first mid after name ms m x (p.streams first name ms (at-own place own first before name old ms on)));
     }
 
 -- the capture ended
@@ -161,11 +165,12 @@ pub ends :
     → PassesOver place old now before mid
     → EndsReading now mid after
     → EndsStream (stream_of place old) before after
-ends place old now before mid after p e first name ms on =
-    let s = p.streams first name ms on in
+ends place old now before mid after p e first name own ms on =
+    let s = p.streams first name ms (at-own place own first before name old ms on) in
     let end = e first name s.head s.packets s.reads in (
-      file-more first name (λ bytes. IsWholeCapture bytes s.head s.packets) (λ bytes. JudgesMarks place bytes (Ok ms))
-          (λ bytes whole. record { head = s.head; packets = s.packets; capture = whole; marked = s.marked }) end.0,
+      subst (λ q. OnFile first name (λ bytes. JudgesMarks q bytes (Ok ms))) on.looks
+          (file-more first name (λ bytes. IsWholeCapture bytes s.head s.packets) (λ bytes. JudgesMarks place bytes (Ok ms))
+          (λ bytes whole. record { head = s.head; packets = s.packets; capture = whole; marked = s.marked }) end.0),
       end.1,
       end.2,
     )
@@ -173,7 +178,7 @@ ends place old now before mid after p e first name ms on =
 -- the capture can't be read on
 why-file :
     (place : Place) (now : Reading) (first mid after : Option Told) (name : List ℕ) (ms : List Marked) (e : FileError)
-    → (s : StreamsOn first mid name (stream_of place now) ms)
+    → (s : StreamsOn first mid name place (stream_of place now) ms)
     → WhyStopped first after name s.head s.packets e
     → WhyStreamStopped place first after name ms (File e)
 why-file place now first mid after name ms Missing s w = w
@@ -193,10 +198,10 @@ pub stops :
     → PassesOver place old now before mid
     → StopsReading now mid after e
     → StopsStream (stream_of place old) before after (File e)
-stops place old now before mid after e p stop first name ms on =
-    let s = p.streams first name ms on in
+stops place old now before mid after e p stop first name own ms on =
+    let s = p.streams first name ms (at-own place own first before name old ms on) in
     let w = stop first name s.head s.packets s.reads in
-    (why-file place now first mid after name ms e s w.0, w.1)
+    (subst (λ q. WhyStreamStopped q first after name ms (File e)) on.looks (why-file place now first mid after name ms e s w.0), w.1)
 
 pub may-stop : (s : Streaming) (c : Reading) (before after : Option Told) (e : FileError) → GivesError c before after e → MayStop s (File e)
 may-stop s c before after Missing g = g
@@ -211,12 +216,13 @@ pub cuts :
     → PassesOver place old now before mid
     → LooksAt place now new mid after (looked.Cut number)
     → StopsStream (stream_of place old) before after (HeadersCut number)
-cuts place old now new before mid after number p x first name ms on =
-    let s = p.streams first name ms on in
+cuts place old now new before mid after number p x first name own ms on =
+    let s = p.streams first name ms (at-own place own first before name old ms on) in
     let shows = shown-at place now new first mid after name ms (looked.Cut number) x s in
     let reads : ReadsOn first after name new s.head (s.packets ++ x.packet ∷ []) = x.reads first name s.head s.packets s.reads in
     let counted = numbered place now new first mid after name ms (looked.Cut number) x s in (
-      file-more first name (λ bytes. BeginsWith bytes s.head (s.packets ++ x.packet ∷ [])) (λ bytes. RefusesMarks place bytes (CutAt number) ms)
+      subst (λ q. WhyStreamStopped q first after name ms (HeadersCut number)) on.looks
+          (file-more first name (λ bytes. BeginsWith bytes s.head (s.packets ++ x.packet ∷ [])) (λ bytes. RefusesMarks place bytes (CutAt number) ms)
           (λ bytes begins. record {
             head = s.head;
             before = s.packets;
@@ -226,7 +232,7 @@ cuts place old now new before mid after number p x first name ms on =
             cut = shows.0;
             counted = omega (arith, shows.1, counted);
           })
-          reads.begins,
+          reads.begins),
       reads.kept,
     )
 
@@ -242,9 +248,10 @@ may-cut place old now new before mid after number p x =
 pub opens :
     (place : Place) (before now : Option Told) (name : List ℕ) (c : Reading)
     → ((h : Head) × (c.decoded.summary.head ≡ Some h) × ReadsOn before now name c h [])
-    → StreamsOn before now name (stream_of place c) []
+    → StreamsOn before now name place (stream_of place c) []
 opens place before now name c o = record {
   goes_on = refl;
+  looks = refl;
   head = o.0;
   packets = [];
   reads = o.2;

@@ -10,7 +10,7 @@ use Rattle.am_pcap.specs.declared.head.Head.{Head}
 use Rattle.am_meter.specs.declared.stream.Marked.{Marked as MarkedRecord}
 use Rattle.am_meter.specs.declared.stream.Looked.{Looked}
 use Rattle.am_meter.specs.declared.stream.Looked.TheVariants.{Marked, Unmarked, Cut}
-use Rattle.am_meter.specs.Streaming.{Streaming}
+use Rattle.am_meter.specs.Streaming.{stream_of}
 use Rattle.am_meter.specs.Streams.{StreamsOn}
 use Rattle.am_meter.specs.Marks.{IsSeenIn}
 
@@ -44,5 +44,5 @@ pub record PassesOver (place : Place) (old now : Reading) (before mid : Option T
   pub goes_on : now.over ≡ false
   pub passes : old.decoded.summary.count ≤ now.decoded.summary.count
   pub streams : (first : Option Told) (name : List ℕ) (ms : List MarkedRecord)
-      → StreamsOn first before name (record { capture = old; place = place; over = false }) ms
-      → StreamsOn first mid name (record { capture = now; place = place; over = false }) ms
+      → StreamsOn first before name place (stream_of place old) ms
+      → StreamsOn first mid name place (stream_of place now) ms

@@ -84,7 +84,8 @@ pub data MarksRefusal : Type 0 where
 -- the bytes are refused so, after these marked records
 abbrev pub RefusesMarks : Place → List ℕ → MarksRefusal → List Marked → Type 0
 RefusesMarks place bytes Long ms = IsLong bytes × BeginsMarked place bytes ms
-RefusesMarks place bytes (BadCapture e) ms = (IsRefusedHeader bytes e × (ms ≡ [])) ⊎ IsRefusedMarked place bytes e ms
+RefusesMarks place bytes (BadCapture e) ms =
+    (IsRefusedHeader bytes e × (ms ≡ [])) ⊎ IsRefusedMarked place bytes e ms
 RefusesMarks place bytes (HeadersCut number) ms = CutsHeaders place bytes number ms
 
 -- the bytes have these marked records, or are refused so

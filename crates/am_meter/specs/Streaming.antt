@@ -1,5 +1,5 @@
 -- What a stream has.
-use Rattle.std.specs.Prelude.{ℕ, Bool}
+use Rattle.std.specs.Prelude.{ℕ, Bool, false}
 use Rattle.am_ip6.specs.declared.marks.Place.{Place}
 use Rattle.am_pcap.specs.Readings.{Reading}
 
@@ -12,3 +12,7 @@ pub record Streaming : Type 0 where
 -- how many records it passed: those that it gave, and those that aren't marked
 abbrev pub passed : Streaming → ℕ
 passed s = s.capture.decoded.summary.count
+
+-- a stream that goes on, whose capture has this
+abbrev pub stream_of : Place → Reading → Streaming
+stream_of place c = record { capture = c; place = place; over = false }

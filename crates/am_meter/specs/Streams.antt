@@ -1,13 +1,11 @@
 -- A stream of the marked records of a capture on a shelf: what it has given, and what its answers say.
-use Rattle.std.specs.Prelude.{◌≡◌, ℕ, ◌<◌, ◌≤◌, ◌^◌, Bool, false, List, [], ◌∷◌, ◌++◌, length, ⊤, Option, Ok}
+use Rattle.std.specs.Prelude.{◌≡◌, ℕ, ◌<◌, ◌≤◌, ◌^◌, false, List, [], ◌∷◌, ◌++◌, length, ⊤, Option, Ok}
 use Rattle.am_base.specs.Shelves.{Told, IsAtEnd}
 use Rattle.am_base.specs.Files.{OnFile, KeepsFiles}
 use Rattle.am_ip6.specs.declared.marks.Place.{Place}
 use Rattle.am_pcap.specs.Packets.{Packet}
-use Rattle.am_pcap.specs.Readings.{Reading}
 use Rattle.am_pcap.specs.CaptureFiles.{ReadsOn, IsReadWhole, WhyNotOpened}
 use Rattle.am_pcap.specs.declared.head.Head.{Head}
-use Rattle.am_pcap.specs.declared.capture.FileError.{FileError}
 use Rattle.am_pcap.specs.declared.capture.FileError.TheVariants.{Missing, ReadFault, TooLong, Bad, Memory}
 use Rattle.am_meter.specs.declared.stream.Marked.{Marked}
 use Rattle.am_meter.specs.declared.stream.MeterError.{MeterError}
@@ -16,14 +14,15 @@ use Rattle.am_meter.specs.Streaming.{Streaming, passed}
 use Rattle.am_meter.specs.Marks.{AreMarked, JudgesMarks, RefusesMarks}
 use Rattle.am_meter.specs.Marks.MarksRefusal.{Long, BadCapture, HeadersCut as CutAt}
 
--- a stream of this file is read on: the capture is, and of the records that it passed none has headers that are cut, and
--- these are the marked ones
-pub record StreamsOn (before now : Option Told) (name : List ℕ) (s : Streaming) (ms : List Marked) : Type 0 where
+-- a stream of this file is read on, which looks in this kind of header: the capture is, and of the records that it passed
+-- none has headers that are cut, and these are the marked ones
+pub record StreamsOn (before now : Option Told) (name : List ℕ) (place : Place) (s : Streaming) (ms : List Marked) : Type 0 where
   pub goes_on : s.over ≡ false
+  pub looks : s.place ≡ place
   pub head : Head
   pub packets : List Packet
   pub reads : ReadsOn before now name s.capture head packets
-  pub marked : AreMarked s.place head 1 packets ms
+  pub marked : AreMarked place head 1 packets ms
   -- there are no more than were passed, and the files are as they were
   pub few : length ms ≤ passed s
   pub kept : KeepsFiles before now
@@ -42,15 +41,16 @@ pub record GivesMarked (old new : Streaming) (before after : Option Told) (m : M
   pub few : m.number ≤ 2 ^ 36
   pub passes : passed new ≡ m.number
   pub goes_on : new.over ≡ false
-  pub place : new.place ≡ old.place
-  pub streams : (first : Option Told) (name : List ℕ) (ms : List Marked)
-      → StreamsOn first before name old ms → StreamsOn first after name new (ms ++ m ∷ [])
+  pub streams : (first : Option Told) (name : List ℕ) (place : Place) (ms : List Marked)
+      → StreamsOn first before name place old ms → StreamsOn first after name place new (ms ++ m ∷ [])
 
 -- whatever file was streamed, it is a whole capture with the marked records that were given, and nothing of it is left
 abbrev pub EndsStream : Streaming → Option Told → Option Told → Type 0
 EndsStream old before after =
-    (first : Option Told) (name : List ℕ) (ms : List Marked) → StreamsOn first before name old ms
-    → OnFile first name (λ bytes. JudgesMarks old.place bytes (Ok ms)) × IsAtEnd after × KeepsFiles first after
+    (first : Option Told) (name : List ℕ) (place : Place) (ms : List Marked)
+    → StreamsOn first before name place old ms
+    → OnFile first name (λ bytes. JudgesMarks place bytes (Ok ms))
+    × IsAtEnd after × KeepsFiles first after
 
 -- why a stream of this file, which gave these marked records, gives no more
 abbrev pub WhyStreamStopped : Place → Option Told → Option Told → List ℕ → List Marked → MeterError → Type 0
@@ -67,8 +67,9 @@ WhyStreamStopped place before after name ms (HeadersCut number) =
 -- whatever file was streamed, this is why it gives no more
 abbrev pub StopsStream : Streaming → Option Told → Option Told → MeterError → Type 0
 StopsStream old before after e =
-    (first : Option Told) (name : List ℕ) (ms : List Marked) → StreamsOn first before name old ms
-    → WhyStreamStopped old.place first after name ms e × KeepsFiles first after
+    (first : Option Told) (name : List ℕ) (place : Place) (ms : List Marked)
+    → StreamsOn first before name place old ms
+    → WhyStreamStopped place first after name ms e × KeepsFiles first after
 
 -- what may stop a stream that was opened, on any shelf: the number of a record whose headers are cut is greater than those
 -- before
@@ -83,6 +84,7 @@ MayStop old (HeadersCut number) = (passed old < number) × (number ≤ 2 ^ 36)
 -- why the stream of this name was not opened
 abbrev pub WhyNotStreamed : Place → Option Told → Option Told → List ℕ → MeterError → Type 0
 WhyNotStreamed place before after name (File (Bad e)) =
-    WhyNotOpened before after name (Bad e) × OnFile before name (λ bytes. RefusesMarks place bytes (BadCapture e) [])
+    WhyNotOpened before after name (Bad e)
+    × OnFile before name (λ bytes. RefusesMarks place bytes (BadCapture e) [])
 WhyNotStreamed place before after name (File e) = WhyNotOpened before after name e
 WhyNotStreamed place before after name (HeadersCut number) = ⊥

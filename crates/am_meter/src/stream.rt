@@ -8,7 +8,7 @@ ghost use Rattle.am_pcap.specs.Shown.{packet_shown};
 ghost use Rattle.am_pcap.specs.Answers.{EndsReading, GivesError, StopsReading};
 ghost use Rattle.am_pcap.specs.declared.capture.FileError.TheVariants as file;
 ghost use Rattle.am_meter.specs.Marks.{IsSeenIn};
-ghost use Rattle.am_meter.specs.Streaming.{Streaming, passed};
+ghost use Rattle.am_meter.specs.Streaming.{stream_of};
 ghost use Rattle.am_meter.specs.Streams.{StreamsOn, GivesMarked, EndsStream, StopsStream, MayStop, WhyNotStreamed};
 ghost use Rattle.am_meter.specs.Looks.{LooksAt, ShowsAs};
 ghost use Rattle.am_meter.specs.declared.stream.MeterError.TheVariants.{File};
@@ -72,8 +72,8 @@ impl Stream {
         name: &str,
         place: Place,
     ) -> Result<Stream, MeterError>
-        ensures streams { IfOk result (λ s. StreamsOn (S.told shelf.old) (S.told shelf.new) name.now s []) }
-        ensures place { IfOk result (λ s. s.place ≡ place) }
+        ensures streams { IfOk result (λ s.
+            StreamsOn (S.told shelf.old) (S.told shelf.new) name.now place s []) }
         ensures refused { IfErr result (λ e.
             WhyNotStreamed place (S.told shelf.old) (S.told shelf.new) name.now e) }
         ensures missing { IsErrOf result (File file.Missing) →
@@ -149,18 +149,17 @@ fn next_marked<S: Shelf>(
     shelf: &mut S,
 ) -> Result<Option<Marked>, MeterError>
     requires { capture.old.over ≡ false }
-    ensures gives { IfOk result (λ o. IfSome o (λ m. GivesMarked
-        (record { capture = capture.old; place = place; over = false })
-        (record { capture = capture.new; place = place; over = false })
+    ensures gives { IfOk result (λ o. IfSome o (λ m.
+        GivesMarked (stream_of place capture.old) (stream_of place capture.new)
         (S.told shelf.old) (S.told shelf.new) m)) }
     ensures goes_on { IfOk result (λ o. IfSome o (λ _. capture.new.over ≡ false)) }
     ensures ended { IfOk result (λ o. IfNone o
-        (EndsStream (record { capture = capture.old; place = place; over = false }) (S.told shelf.old) (S.told shelf.new))) }
-    ensures stopped { IfErr result (λ e. StopsStream
-        (record { capture = capture.old; place = place; over = false }) (S.told shelf.old) (S.told shelf.new) e) }
-    ensures may_stop { IfErr result (λ e.
-        MayStop (record { capture = capture.old; place = place; over = false }) e) }
-    ensures read_fault { IsErrOf result (File file.ReadFault) → Rose (S.faults shelf.old) (S.faults shelf.new) }
+        (EndsStream (stream_of place capture.old) (S.told shelf.old) (S.told shelf.new))) }
+    ensures stopped { IfErr result (λ e.
+        StopsStream (stream_of place capture.old) (S.told shelf.old) (S.told shelf.new) e) }
+    ensures may_stop { IfErr result (λ e. MayStop (stream_of place capture.old) e) }
+    ensures read_fault { IsErrOf result (File file.ReadFault) →
+        Rose (S.faults shelf.old) (S.faults shelf.new) }
     ensures faults_stay { S.faults shelf.old ≤ S.faults shelf.new }
     ensures missed_stay { S.missed shelf.old ≤ S.missed shelf.new }
 {
@@ -188,8 +187,10 @@ fn look<S: Shelf>(
         (EndsReading capture.old (S.told shelf.old) (S.told shelf.new))) }
     ensures stopped { IfErr result (λ e.
         StopsReading capture.old (S.told shelf.old) (S.told shelf.new) e) }
-    ensures error { IfErr result (λ e. GivesError capture.old (S.told shelf.old) (S.told shelf.new) e) }
-    ensures read_fault { IsErrOf result file.ReadFault → Rose (S.faults shelf.old) (S.faults shelf.new) }
+    ensures error { IfErr result (λ e.
+        GivesError capture.old (S.told shelf.old) (S.told shelf.new) e) }
+    ensures read_fault { IsErrOf result file.ReadFault →
+        Rose (S.faults shelf.old) (S.faults shelf.new) }
     ensures faults_stay { S.faults shelf.old ≤ S.faults shelf.new }
     ensures missed_stay { S.missed shelf.old ≤ S.missed shelf.new }
 {

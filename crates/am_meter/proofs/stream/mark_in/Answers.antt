@@ -1,12 +1,11 @@
-use Rattle.std.proofs.Common.{length}
 use Rattle.std.proofs.lemmas.List.{take_rest}
 use Rattle.am_ip6.specs.Seen.{seen_shown}
 use Rattle.am_pcap.specs.Shown.{packet_shown}
-use Rattle.am_meter.proofs.Marking.{seen-of_packet, whole_is}
+use Rattle.am_meter.proofs.Marking.{seen-of_packet}
 use Rattle.am_meter.proofs.stream.mark_in.Goals as goal
 
 pub returns-in-Ip6 : goal.returns-in-Ip6
 returns-in-Ip6 c =
     seen-of_packet c.args.place c.args.link (packet_shown c.args.record.now) c.in-Ip6.at c.whole-whole.result _ (seen_shown c.find_mark.result)
-    (whole_is c.whole-whole.result c.args.record.now.original (length c.args.record.now.bytes.now) c.whole-whole.ensures)
+    c.whole-whole.ensures
     (take_rest c.args.record.now.bytes.now c.in-Ip6.at) c.in-Ip6.ensures.framed c.find_mark.ensures.seen

@@ -1,5 +1,5 @@
 use Rattle.std.proofs.Common.{arith}
-use Rattle.am_meter.proofs.Onward.{gives, passes-one, cuts, may-cut, ends, stops}
+use Rattle.am_meter.proofs.Onward.{gives, passes-one, cuts, ends, stops}
 use Rattle.am_meter.proofs.stream.next_marked.Goals as goal
 
 pub records-preserved : goal.records-preserved
