@@ -1,5 +1,5 @@
 -- What a chain that was performed says of its inputs.
-use Rattle.std.proofs.Common.{arith, refl, sym, ap, subst, ◌∙◌, ◌≡◌, ℕ, ◌≤◌, List, [], ◌∷◌, ◌++◌, length, take, Option, Some, None, Ok, Err, inl, inr}
+use Rattle.std.proofs.Common.{arith, refl, sym, ap, subst, ◌∙◌, ◌≡◌, ℕ, ◌≤◌, List, [], length, Option, Some, None, Ok, Err, inl, inr}
 use Rattle.std.specs.Prelude.{Result}
 use Rattle.std.specs.Io.KnownBytes.{append_known}
 use Rattle.std.proofs.Math.Seq.{take-length}
@@ -8,13 +8,12 @@ use Rattle.am_base.specs.Counts.{Rose}
 use Rattle.am_base.specs.Shelves.{File, Told, OnTold, IsAbsent, file_named}
 use Rattle.am_base.specs.Sinks.{AppendsFront}
 use Rattle.am_base.specs.Files.{OnFile, KeepsFiles}
-use Rattle.am_pcap.specs.CaptureFiles.{IsRefusedBehind}
 use Rattle.am_pcap.specs.declared.refusal.CapError.{CapError}
-use Rattle.am_cli.specs.Answers.{Reason, Ending, Answer, ending_status, status}
+use Rattle.am_cli.specs.Answers.{Reason, Ending, Answer}
 use Rattle.am_cli.specs.Answers.Reason.{TooLong, BadCapture, HeadersCut, BadDomain}
 use Rattle.am_cli.specs.Answers.Ending.{Done, Missing, Refused}
 use Rattle.am_cli.specs.Answers.Answer.{Ended, NoCommand, ReadFault, WriteFault, NoMemory}
-use Rattle.am_cli.specs.Chains.{Inputs, Output, Stream, Chain, Judged, EndsAt, Ends, Follows, StopsAt, Performs, IsTextOfFirst, IsTextOfAll, IsTextBeforeBad, IsTextBeforeRefused, IsTextOfSome, StreamRefuses, StreamEnds, StreamsSo, PrintsAll, PrintsFront, PrintsWhole, PrintsPieces, PrintsAtFault}
+use Rattle.am_cli.specs.Chains.{Inputs, Output, Stream, Chain, Judged, EndsAt, Ends, Follows, StopsAt, Performs, IsTextOfFirst, IsTextBeforeBad, IsTextBeforeRefused, IsTextOfSome, StreamRefuses, StreamEnds, StreamsSo, PrintsAll, PrintsFront, PrintsWhole, PrintsPieces}
 use Rattle.am_cli.specs.Runs.{NamesFile}
 use Rattle.am_cli.specs.Chains.Chain.{Reads, Refuses, Prints, Writes, Streams}
 

@@ -1,7 +1,7 @@
 -- What the inputs of a chain come to has one status.
-use Rattle.std.proofs.Common.{arith, refl, sym, ap, subst, ◌∙◌, ◌≡◌, ℕ, ◌≤◌, ◌<◌, List, [], ◌∷◌, ◌++◌, length, Option, Some, None, Ok, Err, inl, inr}
+use Rattle.std.proofs.Common.{arith, refl, sym, ap, subst, ◌∙◌, ◌≡◌, ℕ, List, [], ◌∷◌, ◌++◌, Option, Some, Ok, Err, inl, inr}
 use Rattle.std.specs.Prelude.{Result}
-use Rattle.am_base.specs.Shelves.{File, Told, IsAbsent, file_named}
+use Rattle.am_base.specs.Shelves.{Told, IsAbsent}
 use Rattle.am_base.specs.Files.{OnFile}
 use Rattle.am_pcap.specs.Packets.{Packet}
 use Rattle.am_pcap.specs.declared.head.Head.{Head}

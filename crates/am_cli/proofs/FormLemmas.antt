@@ -1,9 +1,9 @@
 -- The words are one command; what the inputs of a command come to has one status. A command owes a case in each of these.
-use Rattle.std.proofs.Common.{arith, refl, sym, ap, subst, ◌∙◌, ◌≡◌, ℕ, List, [], ◌∷◌, ◌++◌, length, Option, Some, None, codes}
+use Rattle.std.proofs.Common.{refl, sym, ap, subst, ◌∙◌, ◌≡◌, ℕ, List, ◌∷◌, Option, Some, None, codes}
 use Rattle.std.specs.Prelude.{bytes_eq, cond}
 use Rattle.am_base.specs.Shelves.{Told}
 use Rattle.am_ip6.specs.declared.marks.Place.TheVariants.{HopByHop}
-use Rattle.am_cli.specs.Forms.{Kind, Command, Says, IsNoCommand, form, chain_of}
+use Rattle.am_cli.specs.Forms.{Kind, Command, Says, IsNoCommand, form}
 use Rattle.am_cli.specs.Forms.Kind.{Linking, Showing, Checking}
 use Rattle.am_cli.specs.Inputs.{JudgesCapture, JudgesDomain}
 use Rattle.am_cli.specs.Laws.{Laws}

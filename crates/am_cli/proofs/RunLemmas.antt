@@ -9,7 +9,7 @@ use Rattle.am_cli.specs.Answers.Answer.{Ended, NoCommand, ReadFault, WriteFault,
 use Rattle.am_cli.specs.Chains.{Inputs, Output, Ends, Performs}
 use Rattle.am_cli.specs.Forms.{Command, Says, IsNoCommand, chain_of}
 use Rattle.am_cli.specs.Laws.{Laws}
-use Rattle.am_cli.specs.Runs.{Obeys, ObeysOne, IsDecided, Completes, NamesFile}
+use Rattle.am_cli.specs.Runs.{Obeys, IsDecided, Completes, NamesFile}
 use Rattle.am_cli.proofs.ChainLemmas.{comes, forgets}
 use Rattle.am_cli.proofs.FormLemmas.{settled, says-once}
 
@@ -98,8 +98,12 @@ completed-one :
     → Performs (record { told = Some t; faults = faults; missed = missed }) after old new (chain_of c) answer
     → Completes words (Some t) (Rose faults after.faults ⊎ Rose old.faults new.faults) (status answer)
 completed-one t words after old new c (Ended e) faults missed s p =
-    λ d u sound. inl (e, says-once (λ x. Ends (Some t) (chain_of x) e) words c d s u
-    (comes (record { told = Some t; faults = faults; missed = missed }) after old new (chain_of c) (Ended e) p), refl)
+    λ d u sound. inl (
+      e,
+      says-once (λ x. Ends (Some t) (chain_of x) e) words c d s u
+          (comes (record { told = Some t; faults = faults; missed = missed }) after old new (chain_of c) (Ended e) p),
+      refl,
+    )
 completed-one t words after old new c NoCommand faults missed s p =
     absurd (comes (record { told = Some t; faults = faults; missed = missed }) after old new (chain_of c) NoCommand p)
 completed-one t words after old new c (ReadFault name) faults missed s p =

@@ -1,5 +1,5 @@
 -- Words in a list.
-use Rattle.std.proofs.Common.{◌≡◌, ℕ, ◌<◌, ◌≤◌, ◌-◌, List, [], ◌∷◌, length, get_or, take, drop, map, refl, ap, ◌∙◌, arith}
+use Rattle.std.proofs.Common.{◌≡◌, ℕ, ◌<◌, ◌≤◌, ◌-◌, List, [], ◌∷◌, length, get_or, take, drop, map, ap, ◌∙◌, arith}
 use Rattle.std.proofs.Math.Seq.{take-length}
 
 -- a list that isn't empty is its first word and the rest

@@ -1,6 +1,6 @@
 -- A command as a chain: its inputs one after another, each taken to its end before the next, and then what is printed.
 -- What the inputs come to, what is printed, and what each stop leaves, are read off the chain.
-use Rattle.std.specs.Prelude.{◌≡◌, ◌⊎◌, ℕ, ◌≤◌, ⊤, List, [], ◌∷◌, ◌++◌, Option, Some, None, Result, Ok, Err}
+use Rattle.std.specs.Prelude.{◌≡◌, ◌⊎◌, ℕ, ◌≤◌, ⊤, List, [], ◌∷◌, ◌++◌, Option, Some, Result, Ok, Err}
 use Rattle.std.specs.Io.KnownBytes.{append_known}
 use Rattle.am_base.specs.Counts.{Rose}
 use Rattle.am_base.specs.Shelves.{Told, IsAbsent, IsAtEnd}
@@ -195,7 +195,7 @@ abbrev pub Performs : Inputs → Inputs → Output → Output → Chain → Answ
 Performs before after old new (Reads A name judge next) answer =
     (StopsAt before after name judge answer × (new.written ≡ old.written))
     ⊎ ((a : A) × (behind : Inputs) × Judged before.told name judge (Ok a) × Follows before behind
-       × Performs behind after old new (next a) answer)
+    × Performs behind after old new (next a) answer)
 Performs before after old new (Refuses name reason) answer =
     ((answer ≡ Ended (Refused name reason)) ⊎ (answer ≡ NoMemory)) × (new.written ≡ old.written)
 Performs before after old new (Prints is) answer = (after ≡ before) × PrintsWhole old new is answer

@@ -5,10 +5,8 @@ use Rattle.am_pcap.specs.Packets.{Packet}
 use Rattle.am_pcap.specs.CaptureFiles.{BeginsWith, IsWholeCapture, IsRefusedIn, IsRefusedHeader}
 use Rattle.am_pcap.specs.declared.refusal.CapError.{CapError}
 use Rattle.am_pcap.specs.declared.head.Head.{Head}
-use Rattle.am_domain.specs.Domains.{DomainValue}
 use Rattle.am_cli.specs.Answers.{Reason}
 use Rattle.am_cli.specs.Inputs.{JudgesCapture, JudgesDomain}
-use Rattle.am_meter.specs.declared.stream.Marked.{Marked}
 
 -- bytes of which something is taken aren't refused
 pub record Excludes {A : Type 0} (judge : List ℕ → Result A Reason → Type 0) : Type 0 where

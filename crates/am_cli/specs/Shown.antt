@@ -1,5 +1,5 @@
 -- What the program's own values say: a command, an answer.
-use Rattle.std.specs.Prelude.{◌≡◌, ◌⊎◌, ℕ, List, Option, None, Some, Result, Ok, Err, option_map, string_bytes}
+use Rattle.std.specs.Prelude.{◌≡◌, ◌⊎◌, ℕ, List, Some, Result, Ok, Err, option_map, string_bytes}
 use Rattle.am_base.specs.declared.file.FileFault.{FileFault}
 use Rattle.am_base.specs.declared.file.FileFault.TheVariants as whole
 use Rattle.am_pcap.specs.declared.capture.FileError.{FileError}

@@ -30,14 +30,18 @@ pub enum Stop {
     /// The words are no command.
     NoCommand,
     /// No file has this name.
-    Missing { name: String },
+    Missing {
+        name: String,
+    },
     /// An input is refused: the file of this name, or what has no file.
     Refused {
         name: Option<String>,
         reason: Reason,
     },
     /// This file could not be opened or read.
-    ReadFault { name: String },
+    ReadFault {
+        name: String,
+    },
     /// The output could not be written.
     WriteFault,
     /// There was not enough memory.
@@ -57,10 +61,8 @@ impl Stop {
 
     /// This file is refused; or there was no memory to keep its name.
     pub fn refused(alloc: Global, name: &str, reason: Reason) -> Stop
-        ensures {
-            IsAnswer (said.Answer.Ended (said.Ending.Refused (Some name.now) (reason_shown reason)))
-                (stop_shown result)
-        }
+        ensures { IsAnswer (said.Answer.Ended (said.Ending.Refused (Some name.now) (reason_shown reason)))
+            (stop_shown result) }
     {
         match String::from_str(alloc, name) {
             Ok(name) => Stop::Refused {
@@ -167,15 +169,9 @@ fn said_of(alloc: Global, name: &str, what: &str) -> Result<String, AllocError>
 }
 
 // The line of an input that is refused.
-fn refused_line(
-    alloc: Global,
-    name: &Option<String>,
-    reason: Reason,
-) -> Result<String, AllocError>
-    ensures {
-        IfOk result (λ text. string_bytes text
-            ≡ refusal_line (option_map (λ n. string_bytes n) name.now) (reason_shown reason))
-    }
+fn refused_line(alloc: Global, name: &Option<String>, reason: Reason) -> Result<String, AllocError>
+    ensures { IfOk result (λ text. string_bytes text
+        ≡ refusal_line (option_map (λ n. string_bytes n) name.now) (reason_shown reason)) }
 {
     let mut line = String::new(alloc);
     line.push_str("altmark: ")?;
@@ -186,15 +182,9 @@ fn refused_line(
 }
 
 // Adds what is refused: a file's name, or the word `domain`.
-fn push_subject(
-    line: &mut String,
-    name: &Option<String>,
-    reason: Reason,
-) -> Result<(), AllocError>
-    ensures {
-        OnOk result (string_bytes line.new ≡ string_bytes line.old
-            ++ subject (option_map (λ n. string_bytes n) name.now) (reason_shown reason))
-    }
+fn push_subject(line: &mut String, name: &Option<String>, reason: Reason) -> Result<(), AllocError>
+    ensures { OnOk result (string_bytes line.new ≡ string_bytes line.old
+        ++ subject (option_map (λ n. string_bytes n) name.now) (reason_shown reason)) }
 {
     let Some(name) = name else {
         return Ok(());
@@ -216,10 +206,8 @@ fn push_name(line: &mut String, name: &str) -> Result<(), AllocError>
 
 // Adds why an input is refused.
 fn push_reason(line: &mut String, reason: Reason) -> Result<(), AllocError>
-    ensures {
-        OnOk result
-            (string_bytes line.new ≡ string_bytes line.old ++ reason_text (reason_shown reason))
-    }
+    ensures { OnOk result
+        (string_bytes line.new ≡ string_bytes line.old ++ reason_text (reason_shown reason)) }
 {
     match reason {
         Reason::TooLong => line.push_str("too long"),
@@ -244,10 +232,8 @@ fn push_capture(line: &mut String, error: CapError) -> Result<(), AllocError>
 
 // Adds that a record says too many bytes.
 fn push_too_long(line: &mut String, number: u64, length: u32) -> Result<(), AllocError>
-    ensures {
-        OnOk result (string_bytes line.new ≡ string_bytes line.old
-            ++ (codes "record " ++ decimal number ++ codes " is too long: " ++ decimal length))
-    }
+    ensures { OnOk result (string_bytes line.new ≡ string_bytes line.old
+        ++ (codes "record " ++ decimal number ++ codes " is too long: " ++ decimal length)) }
 {
     write!(line, "record {number} is too long: {length}")
 }

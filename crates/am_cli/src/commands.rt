@@ -73,12 +73,10 @@ pub fn perform<S: Shelf, O: Sink>(
     shelf: &mut S,
     out: &mut O,
 ) -> Result<(), Stop>
-    ensures {
-        Performs (inputs (S.told shelf.old) (S.faults shelf.old) (S.missed shelf.old))
-            (inputs (S.told shelf.new) (S.faults shelf.new) (S.missed shelf.new))
-            (output (O.written out.old) (O.faults out.old)) (output (O.written out.new) (O.faults out.new))
-            (chain_of (command_shown command.now)) (answer_of result)
-    }
+    ensures { Performs (inputs (S.told shelf.old) (S.faults shelf.old) (S.missed shelf.old))
+        (inputs (S.told shelf.new) (S.faults shelf.new) (S.missed shelf.new))
+        (output (O.written out.old) (O.faults out.old)) (output (O.written out.new) (O.faults out.new))
+        (chain_of (command_shown command.now)) (answer_of result) }
 {
     match command {
         Command::Link(asked) => link::link(alloc, asked, shelf, out),

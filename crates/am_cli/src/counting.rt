@@ -39,19 +39,15 @@ impl Point {
         requires shift { self.now.shift ≤ 2 ^ 40 }
         requires counted { IsCounted table.old }
         requires fresh { (b : ℕ) → tally table.old self.now.side b ≡ 0 }
-        ensures takes {
-            Takes (inputs (S.told shelf.old) (S.faults shelf.old) (S.missed shelf.old))
-                (inputs (S.told shelf.new) (S.faults shelf.new) (S.missed shelf.new))
-                name.now (JudgesCapture HopByHop)
-                (λ done ms. (b : ℕ) → tally table.new self.now.side b
-                    ≡ count_in self.now.timing self.now.flow self.now.shift ms b)
-                result
-        }
+        ensures takes { Takes (inputs (S.told shelf.old) (S.faults shelf.old) (S.missed shelf.old))
+            (inputs (S.told shelf.new) (S.faults shelf.new) (S.missed shelf.new))
+            name.now (JudgesCapture HopByHop)
+            (λ done ms. (b : ℕ) → tally table.new self.now.side b
+            ≡ count_in self.now.timing self.now.flow self.now.shift ms b)
+            result }
         ensures counted { OnOk result (IsCounted table.new) }
-        ensures other {
-            OnOk result ((b : ℕ) → tally table.new (other self.now.side) b
-                ≡ tally table.old (other self.now.side) b)
-        }
+        ensures other { OnOk result ((b : ℕ) → tally table.new (other self.now.side) b
+            ≡ tally table.old (other self.now.side) b) }
     {
         let mut stream = match Stream::open(alloc, shelf, name, Place::HopByHop) {
             Ok(stream) => stream,
@@ -75,20 +71,19 @@ impl Point {
         requires counted { IsCounted table.old }
         requires fits { (b : ℕ) → tally table.old self.now.side b + 1 < 2 ^ 64 }
         ensures counted { OnOk result (IsCounted table.new) }
-        ensures here {
-            OnOk result ((b : ℕ) → tally table.new self.now.side b
-                ≡ tally table.old self.now.side b
-                    + one_in self.now.timing self.now.flow self.now.shift b marked.now)
-        }
-        ensures there {
-            OnOk result ((b : ℕ) → tally table.new (other self.now.side) b
-                ≡ tally table.old (other self.now.side) b)
-        }
+        ensures here { OnOk result ((b : ℕ) → tally table.new self.now.side b
+            ≡ tally table.old self.now.side b
+            + one_in self.now.timing self.now.flow self.now.shift b marked.now) }
+        ensures there { OnOk result ((b : ℕ) → tally table.new (other self.now.side) b
+            ≡ tally table.old (other self.now.side) b) }
     {
         if marked.mark.flow() != self.flow {
             return Ok(());
         }
-        match self.timing.attribute(marked.reading, marked.mark.loss(), self.shift) {
+        match self
+            .timing
+            .attribute(marked.reading, marked.mark.loss(), self.shift)
+        {
             Some(block) => table.count(self.side, block),
             None => Ok(()),
         }

@@ -14,11 +14,9 @@ const MAX_DOMAIN: u32 = 1_048_576;
 
 /// Takes the domain of the file of this name, which is read to its end.
 pub fn take_domain<S: Shelf>(alloc: Global, shelf: &mut S, name: &str) -> Result<Domain, Stop>
-    ensures {
-        Takes (inputs (S.told shelf.old) (S.faults shelf.old) (S.missed shelf.old))
-            (inputs (S.told shelf.new) (S.faults shelf.new) (S.missed shelf.new))
-            name.now JudgesDomain (λ domain d. domain ≡ d) result
-    }
+    ensures { Takes (inputs (S.told shelf.old) (S.faults shelf.old) (S.missed shelf.old))
+        (inputs (S.told shelf.new) (S.faults shelf.new) (S.missed shelf.new))
+        name.now JudgesDomain (λ domain d. domain ≡ d) result }
 {
     let bytes = match read_file(alloc, shelf, name, MAX_DOMAIN) {
         Ok(bytes) => bytes,

@@ -8,7 +8,6 @@ mod answer;
 mod commands;
 mod counting;
 mod inputs;
-
 mod laws;
 mod run;
 mod table;

@@ -35,26 +35,20 @@ pub fn run<S: Shelf, O: Sink, E: Sink>(
     // There is one answer of this status: the words were obeyed with it, from the shelf and the output as they were to as
     // they are now, and its line was said. So the product, what each stop leaves, and the cause of each are read off the
     // command's chain.
-    ensures answered {
-        Answers (map string_bytes words.now)
-            (inputs (S.told shelf.old) (S.faults shelf.old) (S.missed shelf.old))
-            (inputs (S.told shelf.new) (S.faults shelf.new) (S.missed shelf.new))
-            (output (O.written out.old) (O.faults out.old)) (output (O.written out.new) (O.faults out.new))
-            (output (E.written err.old) (E.faults err.old)) (output (E.written err.new) (E.faults err.new))
-            result
-    }
+    ensures answered { Answers (map string_bytes words.now)
+        (inputs (S.told shelf.old) (S.faults shelf.old) (S.missed shelf.old))
+        (inputs (S.told shelf.new) (S.faults shelf.new) (S.missed shelf.new))
+        (output (O.written out.old) (O.faults out.old)) (output (O.written out.new) (O.faults out.new))
+        (output (E.written err.old) (E.faults err.old)) (output (E.written err.new) (E.faults err.new))
+        result }
 
     // On a shelf that tells its files: what the inputs come to gives the status, unless a fault or want of memory does.
-    ensures decided {
-        OnTold (S.told shelf.old) (λ t. IsDecided (map string_bytes words.now) (Some t) result)
-    }
+    ensures decided { OnTold (S.told shelf.old) (λ t. IsDecided (map string_bytes words.now) (Some t) result) }
 
     // And where nothing failed, the inputs come to an ending of this status, or memory ran out.
-    ensures complete {
-        OnTold (S.told shelf.old) (λ t. Completes (map string_bytes words.now) (Some t)
-            (Rose (S.faults shelf.old) (S.faults shelf.new) ⊎ Rose (O.faults out.old) (O.faults out.new))
-            result)
-    }
+    ensures complete { OnTold (S.told shelf.old) (λ t. Completes (map string_bytes words.now) (Some t)
+        (Rose (S.faults shelf.old) (S.faults shelf.new) ⊎ Rose (O.faults out.old) (O.faults out.new))
+        result) }
 {
     laws();
     match obey(alloc, words, shelf, out) {
@@ -70,13 +64,11 @@ fn obey<S: Shelf, O: Sink>(
     shelf: &mut S,
     out: &mut O,
 ) -> Result<(), Stop>
-    ensures {
-        Obeys (map string_bytes words.now)
-            (inputs (S.told shelf.old) (S.faults shelf.old) (S.missed shelf.old))
-            (inputs (S.told shelf.new) (S.faults shelf.new) (S.missed shelf.new))
-            (output (O.written out.old) (O.faults out.old)) (output (O.written out.new) (O.faults out.new))
-            (answer_of result)
-    }
+    ensures { Obeys (map string_bytes words.now)
+        (inputs (S.told shelf.old) (S.faults shelf.old) (S.missed shelf.old))
+        (inputs (S.told shelf.new) (S.faults shelf.new) (S.missed shelf.new))
+        (output (O.written out.old) (O.faults out.old)) (output (O.written out.new) (O.faults out.new))
+        (answer_of result) }
 {
     match command_of(words) {
         Some(command) => perform(alloc, &command, shelf, out),
@@ -86,10 +78,8 @@ fn obey<S: Shelf, O: Sink>(
 
 // Says why a command stopped, and answers the status. Where there is no memory for a line with a name, that is said.
 fn tell<E: Sink>(alloc: Global, stop: &Stop, err: &mut E) -> u8
-    ensures {
-        IsToldAs (output (E.written err.old) (E.faults err.old)) (output (E.written err.new) (E.faults err.new))
-            (stop_shown stop.now) result
-    }
+    ensures { IsToldAs (output (E.written err.old) (E.faults err.old)) (output (E.written err.new) (E.faults err.new))
+        (stop_shown stop.now) result }
 {
     match stop {
         Stop::NoCommand => say(err, "altmark: usage\n"),
@@ -110,10 +100,8 @@ fn tell<E: Sink>(alloc: Global, stop: &Stop, err: &mut E) -> u8
 
 // Writes one line. Where it can't be written there is nobody to tell.
 fn say<E: Sink>(err: &mut E, line: &str)
-    ensures {
-        Tells (output (E.written err.old) (E.faults err.old)) (output (E.written err.new) (E.faults err.new))
-            line.now
-    }
+    ensures { Tells (output (E.written err.old) (E.faults err.old)) (output (E.written err.new) (E.faults err.new))
+        line.now }
 {
     let _ = put(err, line.as_bytes());
 }

@@ -53,12 +53,10 @@ pub fn check<S: Shelf, O: Sink>(
     shelf: &mut S,
     out: &mut O,
 ) -> Result<(), Stop>
-    ensures {
-        Performs (inputs (S.told shelf.old) (S.faults shelf.old) (S.missed shelf.old))
-            (inputs (S.told shelf.new) (S.faults shelf.new) (S.missed shelf.new))
-            (output (O.written out.old) (O.faults out.old)) (output (O.written out.new) (O.faults out.new))
-            (check_chain (check_shown words.now)) (answer_of result)
-    }
+    ensures { Performs (inputs (S.told shelf.old) (S.faults shelf.old) (S.missed shelf.old))
+        (inputs (S.told shelf.new) (S.faults shelf.new) (S.missed shelf.new))
+        (output (O.written out.old) (O.faults out.old)) (output (O.written out.new) (O.faults out.new))
+        (check_chain (check_shown words.now)) (answer_of result) }
 {
     let domain = match take_domain(alloc, shelf, words.file) {
         Ok(domain) => domain,

@@ -56,14 +56,10 @@ fn five_words<'a>(
     up: &'a str,
     down: &'a str,
 ) -> Option<LinkWords<'a>>
-    ensures only {
-        IfSome result
-            (λ w. SaysLink (block.now ∷ shift.now ∷ flow.now ∷ up.now ∷ down.now ∷ []) (link_shown w))
-    }
-    ensures none {
-        IfNone result ((l : Link) →
-            SaysLink (block.now ∷ shift.now ∷ flow.now ∷ up.now ∷ down.now ∷ []) l → ⊥)
-    }
+    ensures only { IfSome result
+        (λ w. SaysLink (block.now ∷ shift.now ∷ flow.now ∷ up.now ∷ down.now ∷ []) (link_shown w)) }
+    ensures none { IfNone result ((l : Link) →
+        SaysLink (block.now ∷ shift.now ∷ flow.now ∷ up.now ∷ down.now ∷ []) l → ⊥) }
 {
     match numbers_of(block, shift, flow, up, down) {
         Some(words) => Some(words),
@@ -82,10 +78,8 @@ fn numbers_of<'a>(
     ensures only { IfSome result (λ w. SaysNumbers block.now shift.now flow.now (link_shown w)) }
     ensures up { IfSome result (λ w. w.up.now ≡ up.now) }
     ensures down { IfSome result (λ w. w.down.now ≡ down.now) }
-    ensures none {
-        IfNone result ((l : Link) →
-            SaysNumbers block.now shift.now flow.now l → l.up ≡ up.now → l.down ≡ down.now → ⊥)
-    }
+    ensures none { IfNone result ((l : Link) →
+        SaysNumbers block.now shift.now flow.now l → l.up ≡ up.now → l.down ≡ down.now → ⊥) }
 {
     let Some(block) = number(block, 2, MAX_TIME) else {
         return None;
@@ -124,12 +118,10 @@ pub fn link<S: Shelf, O: Sink>(
     shelf: &mut S,
     out: &mut O,
 ) -> Result<(), Stop>
-    ensures {
-        Performs (inputs (S.told shelf.old) (S.faults shelf.old) (S.missed shelf.old))
-            (inputs (S.told shelf.new) (S.faults shelf.new) (S.missed shelf.new))
-            (output (O.written out.old) (O.faults out.old)) (output (O.written out.new) (O.faults out.new))
-            (link_chain (link_shown words.now)) (answer_of result)
-    }
+    ensures { Performs (inputs (S.told shelf.old) (S.faults shelf.old) (S.missed shelf.old))
+        (inputs (S.told shelf.new) (S.faults shelf.new) (S.missed shelf.new))
+        (output (O.written out.old) (O.faults out.old)) (output (O.written out.new) (O.faults out.new))
+        (link_chain (link_shown words.now)) (answer_of result) }
 {
     let mut table = Table::new(alloc);
     let first = Point {

@@ -55,12 +55,10 @@ pub fn show<S: Shelf, O: Sink>(
     shelf: &mut S,
     out: &mut O,
 ) -> Result<(), Stop>
-    ensures {
-        Performs (inputs (S.told shelf.old) (S.faults shelf.old) (S.missed shelf.old))
-            (inputs (S.told shelf.new) (S.faults shelf.new) (S.missed shelf.new))
-            (output (O.written out.old) (O.faults out.old)) (output (O.written out.new) (O.faults out.new))
-            (show_chain (show_shown words.now)) (answer_of result)
-    }
+    ensures { Performs (inputs (S.told shelf.old) (S.faults shelf.old) (S.missed shelf.old))
+        (inputs (S.told shelf.new) (S.faults shelf.new) (S.missed shelf.new))
+        (output (O.written out.old) (O.faults out.old)) (output (O.written out.new) (O.faults out.new))
+        (show_chain (show_shown words.now)) (answer_of result) }
 {
     let name = words.file;
     let mut capture = match Capture::open(alloc, shelf, name) {

@@ -10,9 +10,9 @@ pub returns-in-Ok-read_domain : goal.returns-in-Ok-read_domain
 returns-in-Ok-read_domain g c = (
   c.in-Ok-read_domain.domain,
   judged-of (g.S.Shelf.told c.args.shelf.now) c.args.name.now JudgesDomain c.in-Ok.bytes.items (Ok c.in-Ok-read_domain.domain) c.in-Ok.ensures.bytes (
-        omega (arith, c.in-Ok.ensures.bound),
-        subst (λ x. IsDomainOf x c.in-Ok-read_domain.domain) c.deref.ensures.value c.in-Ok-read_domain.ensures.ok,
-      ),
+    omega (arith, c.in-Ok.ensures.bound),
+    subst (λ x. IsDomainOf x c.in-Ok-read_domain.domain) c.deref.ensures.value c.in-Ok-read_domain.ensures.ok,
+  ),
   record {
     kept = c.in-Ok.ensures.files;
     faults = c.in-Ok.ensures.faults_stay;

@@ -1,10 +1,8 @@
 -- Both captures were counted, and their table is what is printed.
-use Rattle.std.proofs.Common.{refl, ap, inr, ◌∙◌}
+use Rattle.std.proofs.Common.{refl, inr, ◌∙◌}
 use Rattle.am_cli.specs.Chains.{inputs}
 use Rattle.am_cli.specs.Shown.{link_shown}
-use Rattle.am_cli.specs.Tables.{count_in}
 use Rattle.am_cli.specs.Tallies.{tally, rows_of}
-use Rattle.am_cli.specs.commands.Link.{times_of}
 use Rattle.am_cli.specs.declared.table.Side.TheVariants.{Entered, Left}
 use Rattle.am_cli.proofs.LinkLemmas.{link-table}
 use Rattle.am_cli.proofs.commands.link.link.Goals as goal

@@ -1,5 +1,5 @@
 -- The lines of the records so far, and one more.
-use Rattle.std.proofs.Common.{arith, ap, ◌++◌, ◌∷◌, [], Err}
+use Rattle.std.proofs.Common.{arith, ap, Err}
 use Rattle.am_pcap.specs.Shown.{packet_shown}
 use Rattle.am_cli.specs.Chains.{inputs, output}
 use Rattle.am_cli.specs.commands.Show.{record_lines}
