@@ -13,7 +13,7 @@ use Rattle.am_cli.specs.Answers.{Reason, Ending, Answer}
 use Rattle.am_cli.specs.Answers.Reason.{TooLong, BadCapture, HeadersCut, BadDomain}
 use Rattle.am_cli.specs.Answers.Ending.{Done, Missing, Refused}
 use Rattle.am_cli.specs.Answers.Answer.{Ended, NoCommand, ReadFault, WriteFault, NoMemory}
-use Rattle.am_cli.specs.Chains.{Inputs, Output, Stream, Chain, Judged, EndsAt, Ends, Follows, StopsAt, Performs, IsTextOfFirst, IsTextBeforeBad, IsTextBeforeRefused, IsTextOfSome, StreamRefuses, StreamEnds, StreamsSo, PrintsAll, PrintsFront, PrintsWhole, PrintsPieces}
+use Rattle.am_cli.specs.Chains.{Inputs, Output, Stream, Chain, Judged, EndsHere, Ends, Follows, StopsHere, Performs, IsTextOfFirst, IsTextBeforeBad, IsTextBeforeRefused, IsTextOfSome, StreamRefuses, StreamEnds, StreamsSo, PrintsAll, PrintsFront, PrintsWhole, PrintsPieces}
 use Rattle.am_cli.specs.Runs.{NamesFile}
 use Rattle.am_cli.specs.Chains.Chain.{Reads, Refuses, Prints, Writes, Streams}
 
@@ -33,7 +33,7 @@ absent-kept before after name kept h = on-kept before after (λ files. file_name
 
 ends-at-kept :
     {A : Type 0} (before after : Option Told) (name : List ℕ) (judge : List ℕ → Result A Reason → Type 0) (e : Ending)
-    → KeepsFiles before after → EndsAt after name judge e → EndsAt before name judge e
+    → KeepsFiles before after → EndsHere after name judge e → EndsHere before name judge e
 ends-at-kept before after name judge Done kept h = h
 ends-at-kept before after name judge (Missing missing) kept h = (h.0, absent-kept before after name kept h.1)
 ends-at-kept before after name judge (Refused refused reason) kept h =
@@ -105,7 +105,7 @@ Comes before after old new c NoMemory = Unit {0}
 
 stop-comes :
     {A : Type 0} (before after : Inputs) (old new : Output) (name : List ℕ) (judge : List ℕ → Result A Reason → Type 0) (next : A → Chain) (answer : Answer)
-    → StopsAt before after name judge answer → Comes before after old new (Reads A name judge next) answer
+    → StopsHere before after name judge answer → Comes before after old new (Reads A name judge next) answer
 stop-comes before after old new name judge next (Ended Done) h = absurd h
 stop-comes before after old new name judge next (Ended (Missing missing)) h = inl h.0
 stop-comes before after old new name judge next (Ended (Refused refused reason)) h = inl h

@@ -8,7 +8,7 @@ use Rattle.am_pcap.specs.declared.head.Head.{Head}
 use Rattle.am_cli.specs.Answers.{Reason, Ending, ending_status}
 use Rattle.am_cli.specs.Answers.Reason.{TooLong, BadCapture, HeadersCut, BadDomain}
 use Rattle.am_cli.specs.Answers.Ending.{Done, Missing, Refused}
-use Rattle.am_cli.specs.Chains.{Stream, Chain, Judged, EndsAt, Ends, StreamRefuses, StreamEnds, IsTextOfAll, IsTextBeforeRefused}
+use Rattle.am_cli.specs.Chains.{Stream, Chain, Judged, EndsHere, Ends, StreamRefuses, StreamEnds, IsTextOfAll, IsTextBeforeRefused}
 use Rattle.am_cli.specs.Chains.Chain.{Reads, Refuses, Prints, Writes, Streams}
 use Rattle.am_cli.specs.Laws.{Excludes, CaptureExcludes}
 
@@ -33,7 +33,7 @@ not-there t name P absent p = cc (absent, p.1)
 
 both-at :
     {A : Type 0} (t : Told) (name : List ℕ) (judge : List ℕ → Result A Reason → Type 0) (e f : Ending)
-    → EndsAt (Some t) name judge e → EndsAt (Some t) name judge f → ending_status e ≡ ending_status f
+    → EndsHere (Some t) name judge e → EndsHere (Some t) name judge f → ending_status e ≡ ending_status f
 both-at t name judge Done f p q = absurd p
 both-at t name judge (Missing a) Done p q = absurd q
 both-at t name judge (Missing a) (Missing b) p q = refl
@@ -44,7 +44,7 @@ both-at t name judge (Refused a r) (Refused b s) p q = refl
 
 not-taken :
     {A : Type 0} (t : Told) (name : List ℕ) (judge : List ℕ → Result A Reason → Type 0) (e : Ending) (a : A)
-    → Excludes judge → EndsAt (Some t) name judge e → Judged (Some t) name judge (Ok a) → ⊥
+    → Excludes judge → EndsHere (Some t) name judge e → Judged (Some t) name judge (Ok a) → ⊥
 not-taken t name judge Done a x p q = p
 not-taken t name judge (Missing m) a x p q = not-there t name (λ bytes. judge bytes (Ok a)) p.1 q
 not-taken t name judge (Refused m r) a x p q =

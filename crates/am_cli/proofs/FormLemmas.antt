@@ -3,11 +3,11 @@ use Rattle.std.proofs.Common.{refl, sym, ap, subst, ◌∙◌, ◌≡◌, ℕ, L
 use Rattle.std.specs.Prelude.{bytes_eq, cond}
 use Rattle.am_base.specs.Shelves.{Told}
 use Rattle.am_ip6.specs.declared.marks.Place.TheVariants.{HopByHop}
-use Rattle.am_cli.specs.Forms.{Kind, Command, Says, IsNoCommand, form}
+use Rattle.am_cli.specs.Forms.{Kind, Command, SaysCommand, IsNoCommand, form}
 use Rattle.am_cli.specs.Forms.Kind.{Linking, Showing, Checking}
 use Rattle.am_cli.specs.Inputs.{JudgesCapture, JudgesDomain}
 use Rattle.am_cli.specs.Laws.{Laws}
-use Rattle.am_cli.specs.commands.Link.{Link, SaysLink}
+use Rattle.am_cli.specs.commands.Link.{Link, SaysLinkWords}
 use Rattle.am_cli.specs.commands.Show.{record_lines}
 use Rattle.am_cli.proofs.EndingLemmas.{SameEnds, StreamExcludes, same-reads, same-prints, same-streams}
 
@@ -28,7 +28,7 @@ verb-named Checking = refl
 abbrev made : ℕ → ℕ → ℕ → List ℕ → List ℕ → Link
 made block shift flow up down = record { block = block; shift = shift; flow = flow; up = up; down = down }
 
-link-once : (words : List (List ℕ)) (l k : Link) → SaysLink words l → SaysLink words k → l ≡ k
+link-once : (words : List (List ℕ)) (l k : Link) → SaysLinkWords words l → SaysLinkWords words k → l ≡ k
 link-once words l k s t =
     let same = sym s.spelled ∙ t.spelled in
     let block : l.block ≡ k.block = cc (same, s.numbers.block.value, t.numbers.block.value) in
@@ -57,7 +57,7 @@ settled t Showing a laws =
 settled t Checking a laws = same-reads t a.file JudgesDomain _ _ laws.domain (λ d e p q. same-prints t _ _)
 
 -- what holds of one command that the words are holds of the other
-pub says-once : (P : Command → Type 0) (words : List (List ℕ)) (c d : Command) → Says words c → Says words d → P c → P d
+pub says-once : (P : Command → Type 0) (words : List (List ℕ)) (c d : Command) → SaysCommand words c → SaysCommand words d → P c → P d
 says-once P words c d s t p =
     let both : (form c.kind).verb ∷ s.rest ≡ (form d.kind).verb ∷ t.rest = sym s.verb ∙ t.verb in
     let verbs : (form c.kind).verb ≡ (form d.kind).verb = cc (both) in

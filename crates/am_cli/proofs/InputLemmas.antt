@@ -22,9 +22,9 @@ use Rattle.am_domain.specs.declared.error.DomainError.{DomainError}
 use Rattle.am_domain.specs.declared.error.DomainError.TheVariants as domain
 use Rattle.am_cli.specs.Answers.{Reason, Answer}
 use Rattle.am_cli.specs.Answers.Reason.{TooLong, BadCapture, HeadersCut, BadDomain}
-use Rattle.am_cli.specs.Chains.{Inputs, Judged, Follows, StopsAt}
+use Rattle.am_cli.specs.Chains.{Inputs, Judged, Follows, StopsHere}
 use Rattle.am_cli.specs.Inputs.{JudgesCapture, JudgesDomain, marks_reason, most_domain}
-use Rattle.am_cli.specs.Shown.{IsAnswer, stream_answer, domain_answer}
+use Rattle.am_cli.specs.Shown.{IsAnswered, stream_answer, domain_answer}
 use Rattle.am_cli.proofs.ChainLemmas.{rose-later}
 
 -- a file that was read is judged as its bytes are
@@ -42,17 +42,17 @@ whole-at-end (Some t) after name bytes h = subst IsAtEnd (sym h.1) refl
 -- a stop that is answered is that stop, or want of memory
 pub stop-answer :
     {A : Type 0} (before after : Inputs) (name : List ℕ) (judge : List ℕ → Result A Reason → Type 0) (wanted answer : Answer)
-    → StopsAt before after name judge wanted → IsAnswer wanted answer → StopsAt before after name judge answer
+    → StopsHere before after name judge wanted → IsAnswered wanted answer → StopsHere before after name judge answer
 stop-answer before after name judge wanted answer h is =
     elim is [
-      | inl e ↦ subst (λ a. StopsAt before after name judge a) (sym e) h
-      | inr e ↦ subst (λ a. StopsAt before after name judge a) (sym e) tt
+      | inl e ↦ subst (λ a. StopsHere before after name judge a) (sym e) h
+      | inr e ↦ subst (λ a. StopsHere before after name judge a) (sym e) tt
     ]
 
 -- bytes that aren't read as a domain are a stop at their file
 pub domain-stops :
     (before after : Inputs) (name bytes : List ℕ) (e : DomainError)
-    → HasFile before.told name bytes → length bytes ≤ most_domain → TellsRefusal bytes e → StopsAt before after name JudgesDomain (domain_answer name e)
+    → HasFile before.told name bytes → length bytes ≤ most_domain → TellsRefusal bytes e → StopsHere before after name JudgesDomain (domain_answer name e)
 domain-stops before after name bytes domain.Memory there short h = tt
 domain-stops before after name bytes e there short h = (refl, judged-of before.told name JudgesDomain bytes (Err (BadDomain e)) there (short, h))
 
@@ -96,7 +96,7 @@ not-streamed :
     (before after : Inputs) (name : List ℕ) (e : MeterError) → WhyNotStreamed HopByHop before.told after.told name e
     → (e ≡ meter.File file.Missing → Rose before.missed after.missed × IsAbsent before.told name)
     → (e ≡ meter.File file.ReadFault → Rose before.faults after.faults)
-    → StopsAt before after name (JudgesCapture HopByHop) (stream_answer name e)
+    → StopsHere before after name (JudgesCapture HopByHop) (stream_answer name e)
 not-streamed before after name (meter.File file.Missing) why missing failed = ((refl, (missing refl).1), (missing refl).0)
 not-streamed before after name (meter.File file.ReadFault) why missing failed = (refl, failed refl)
 not-streamed before after name (meter.File file.TooLong) why missing failed = absurd why
@@ -110,8 +110,8 @@ pub stream-not-opened-stops :
     (before after : Inputs) (name : List ℕ) (e : MeterError) (answer : Answer) → WhyNotStreamed HopByHop before.told after.told name e
     → (e ≡ meter.File file.Missing → Rose before.missed after.missed × IsAbsent before.told name)
     → (e ≡ meter.File file.ReadFault → Rose before.faults after.faults)
-    → IsAnswer (stream_answer name e) answer
-    → StopsAt before after name (JudgesCapture HopByHop) answer
+    → IsAnswered (stream_answer name e) answer
+    → StopsHere before after name (JudgesCapture HopByHop) answer
 stream-not-opened-stops before after name e answer why missing failed is =
     stop-answer before after name (JudgesCapture HopByHop) (stream_answer name e) answer (not-streamed before after name e why missing failed) is
 
@@ -119,7 +119,7 @@ not-streamed-on :
     (before now after : Inputs) (name : List ℕ) (ms : List Marked) (e : MeterError)
     → WhyStreamStopped HopByHop before.told after.told name ms e
     → (e ≡ meter.File file.ReadFault → Rose now.faults after.faults) → before.faults ≤ now.faults
-    → StopsAt before after name (JudgesCapture HopByHop) (stream_answer name e)
+    → StopsHere before after name (JudgesCapture HopByHop) (stream_answer name e)
 not-streamed-on before now after name ms (meter.File file.Missing) why failed faults = absurd why
 not-streamed-on before now after name ms (meter.File file.ReadFault) why failed faults =
     (refl, rose-later before.faults now.faults after.faults faults (failed refl))
@@ -133,8 +133,8 @@ pub stream-stops :
     (before now after : Inputs) (name : List ℕ) (s : Streaming) (ms : List Marked) (e : MeterError) (answer : Answer)
     → StreamsOn before.told now.told name HopByHop s ms → StopsStream s now.told after.told e
     → (e ≡ meter.File file.ReadFault → Rose now.faults after.faults) → before.faults ≤ now.faults
-    → IsAnswer (stream_answer name e) answer
-    → StopsAt before after name (JudgesCapture HopByHop) answer
+    → IsAnswered (stream_answer name e) answer
+    → StopsHere before after name (JudgesCapture HopByHop) answer
 stream-stops before now after name s ms e answer on stops failed faults answers =
     stop-answer before after name (JudgesCapture HopByHop) (stream_answer name e) answer
     (not-streamed-on before now after name ms e (stops before.told name HopByHop ms on).0 failed faults) answers

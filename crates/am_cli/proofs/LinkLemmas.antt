@@ -6,7 +6,7 @@ use Rattle.am_cli.specs.Counting.{one_in}
 use Rattle.std.proofs.lemmas.List.Elements.{All-weaker}
 use Rattle.am_meter.specs.declared.stream.Marked.{Marked}
 use Rattle.am_cli.specs.Tables.{Row, IsTable, counts_in, count_in, table_text}
-use Rattle.am_cli.specs.commands.Link.{Link, IsLinkTable, times_of}
+use Rattle.am_cli.specs.commands.Link.{Link, IsLinkTable, link_times}
 
 -- a table of these counts is one of equal counts
 table-of-same :
@@ -23,15 +23,15 @@ table-of-same e f l m rows same_e same_l t = record {
 pub link-table :
     (l : Link) (ups downs : List Marked) (entered entered_after left : ℕ → ℕ) (rows : List Row) (text : List ℕ) (shift : ℕ)
     → shift ≡ l.shift
-    → ((b : ℕ) → entered b ≡ count_in (times_of l) l.flow 0 ups b)
+    → ((b : ℕ) → entered b ≡ count_in (link_times l) l.flow 0 ups b)
     → ((b : ℕ) → entered_after b ≡ entered b)
-    → ((b : ℕ) → left b ≡ count_in (times_of l) l.flow shift downs b)
+    → ((b : ℕ) → left b ≡ count_in (link_times l) l.flow shift downs b)
     → IsTable entered_after left rows → text ≡ table_text rows
     → IsLinkTable l ups downs text
 link-table l ups downs entered entered_after left rows text shift is up same down table printed = record {
   rows = rows;
-  table = table-of-same entered_after (count_in (times_of l) l.flow 0 ups) left (count_in (times_of l) l.flow l.shift downs) rows
-      (λ b. same b ∙ up b) (subst (λ z. (b : ℕ) → left b ≡ count_in (times_of l) l.flow z downs b) is down) table;
+  table = table-of-same entered_after (count_in (link_times l) l.flow 0 ups) left (count_in (link_times l) l.flow l.shift downs) rows
+      (λ b. same b ∙ up b) (subst (λ z. (b : ℕ) → left b ≡ count_in (link_times l) l.flow z downs b) is down) table;
   printed = printed;
 }
 

@@ -7,7 +7,7 @@ use Rattle.am_cli.specs.Answers.{Ending, Answer, ending_status, status}
 use Rattle.am_cli.specs.Answers.Ending.{Done, Missing, Refused}
 use Rattle.am_cli.specs.Answers.Answer.{Ended, NoCommand, ReadFault, WriteFault, NoMemory}
 use Rattle.am_cli.specs.Chains.{Inputs, Output, Ends, Performs}
-use Rattle.am_cli.specs.Forms.{Command, Says, IsNoCommand, chain_of}
+use Rattle.am_cli.specs.Forms.{Command, SaysCommand, IsNoCommand, chain_of}
 use Rattle.am_cli.specs.Laws.{Laws}
 use Rattle.am_cli.specs.Runs.{Obeys, IsDecided, Completes, NamesFile}
 use Rattle.am_cli.proofs.ChainLemmas.{comes, forgets}
@@ -64,14 +64,14 @@ told-obeyed words before after old new stop answer same h =
 
 -- the status of an ending, where the inputs come to another
 decided-ended :
-    (t : Told) (words : List (List ℕ)) (c d : Command) (e f : Ending) → Laws → Says words c → Says words d
+    (t : Told) (words : List (List ℕ)) (c d : Command) (e f : Ending) → Laws → SaysCommand words c → SaysCommand words d
     → Ends (Some t) (chain_of c) e → Ends (Some t) (chain_of d) f → ending_status e ≡ ending_status f
 decided-ended t words c d e f laws s u p q =
     let there : Ends (Some t) (chain_of d) e = says-once (λ x. Ends (Some t) (chain_of x) e) words c d s u p in
     (settled t d.kind d.asked laws).same e f there q
 
 decided-one :
-    (t : Told) (words : List (List ℕ)) (after : Inputs) (old new : Output) (c : Command) (answer : Answer) (faults missed : ℕ) → Laws → Says words c
+    (t : Told) (words : List (List ℕ)) (after : Inputs) (old new : Output) (c : Command) (answer : Answer) (faults missed : ℕ) → Laws → SaysCommand words c
     → Performs (record { told = Some t; faults = faults; missed = missed }) after old new (chain_of c) answer → IsDecided words (Some t) (status answer)
 decided-one t words after old new c (Ended e) faults missed laws s p =
     λ d f u q. inl (decided-ended t words c d e f laws s u (comes (record { told = Some t; faults = faults; missed = missed }) after old new (chain_of c) (Ended e) p) q)
@@ -94,7 +94,7 @@ decided words (Some t) faults missed after old new answer result laws h is =
     ]
 
 completed-one :
-    (t : Told) (words : List (List ℕ)) (after : Inputs) (old new : Output) (c : Command) (answer : Answer) (faults missed : ℕ) → Says words c
+    (t : Told) (words : List (List ℕ)) (after : Inputs) (old new : Output) (c : Command) (answer : Answer) (faults missed : ℕ) → SaysCommand words c
     → Performs (record { told = Some t; faults = faults; missed = missed }) after old new (chain_of c) answer
     → Completes words (Some t) (Rose faults after.faults ⊎ Rose old.faults new.faults) (status answer)
 completed-one t words after old new c (Ended e) faults missed s p =

@@ -18,7 +18,7 @@ use Rattle.am_cli.specs.Answers.{Answer}
 use Rattle.am_cli.specs.Answers.Ending.{Done}
 use Rattle.am_cli.specs.Answers.Answer.{Ended, WriteFault, NoMemory}
 use Rattle.am_cli.specs.Chains.{Inputs, Output, Stream, StreamsSo, IsTextOfFirst}
-use Rattle.am_cli.specs.Shown.{IsAnswer, capture_answer}
+use Rattle.am_cli.specs.Shown.{IsAnswered, capture_answer}
 use Rattle.am_cli.proofs.ChainLemmas.{rose-later, whole-front, nothing}
 use Rattle.am_cli.proofs.ShowSteps.{appended_twice, appended_front}
 
@@ -47,7 +47,7 @@ stream-memory before now after old out name stream c h s =
 
 answered :
     (before after : Inputs) (old new : Output) (name : List ℕ) (stream : Stream) (wanted answer : Answer)
-    → StreamsSo before after old new name stream wanted → StreamsSo before after old new name stream NoMemory → IsAnswer wanted answer
+    → StreamsSo before after old new name stream wanted → StreamsSo before after old new name stream NoMemory → IsAnswered wanted answer
     → StreamsSo before after old new name stream answer
 answered before after old new name stream wanted answer h none is =
     elim is [
@@ -74,7 +74,7 @@ pub stream-not-opened :
     → WhyNotOpened before.told after.told name e
     → (e ≡ fault.Missing → Rose before.missed after.missed)
     → (e ≡ fault.ReadFault → Rose before.faults after.faults)
-    → IsAnswer (capture_answer name e) answer
+    → IsAnswered (capture_answer name e) answer
     → StreamsSo before after out out name stream answer
 stream-not-opened before after out name stream e answer why missed failed is =
     answered before after out out name stream (capture_answer name e) answer (not-opened before after out name stream e why missed failed)
@@ -120,7 +120,7 @@ stopped before now after old out name stream c h fault.Memory s stops failed = a
 pub stream-stopped :
     (before now after : Inputs) (old out : Output) (name : List ℕ) (stream : Stream) (c : Reading) (h : Head) (e : FileError) (answer : Answer)
     → Streaming before now old out name stream c h
-    → StopsReading c now.told after.told e → (e ≡ fault.ReadFault → Rose now.faults after.faults) → IsAnswer (capture_answer name e) answer
+    → StopsReading c now.told after.told e → (e ≡ fault.ReadFault → Rose now.faults after.faults) → IsAnswered (capture_answer name e) answer
     → StreamsSo before after old out name stream answer
 stream-stopped before now after old out name stream c h e answer s stops failed is =
     answered before after old out name stream (capture_answer name e) answer (stopped before now after old out name stream c h e s stops failed)

@@ -59,10 +59,10 @@ abbrev pub Judged : {A : Type 0} → Option Told → List ℕ → (List ℕ → 
 Judged told name judge r = OnFile told name (λ bytes. judge bytes r)
 
 -- this file ends the command: it isn't there, or its bytes are refused
-abbrev pub EndsAt : {A : Type 0} → Option Told → List ℕ → (List ℕ → Result A Reason → Type 0) → Ending → Type 0
-EndsAt told name judge Done = ⊥
-EndsAt told name judge (Missing missing) = (missing ≡ name) × IsAbsent told name
-EndsAt told name judge (Refused refused reason) = (refused ≡ Some name) × Judged told name judge (Err reason)
+abbrev pub EndsHere : {A : Type 0} → Option Told → List ℕ → (List ℕ → Result A Reason → Type 0) → Ending → Type 0
+EndsHere told name judge Done = ⊥
+EndsHere told name judge (Missing missing) = (missing ≡ name) × IsAbsent told name
+EndsHere told name judge (Refused refused reason) = (refused ≡ Some name) × Judged told name judge (Err reason)
 
 -- the text is what is printed of some first records of the capture
 pub record IsTextOfFirst (told : Option Told) (name : List ℕ) (stream : Stream) (text : List ℕ) : Type 0 where
@@ -112,7 +112,7 @@ StreamEnds told name stream (Refused refused reason) text = (refused ≡ Some na
 -- what the inputs of a chain come to where nothing fails: the first that isn't there or is refused ends it
 abbrev pub Ends : Option Told → Chain → Ending → Type 0
 Ends told (Reads A name judge next) ending =
-    EndsAt told name judge ending ⊎ ((a : A) × Judged told name judge (Ok a) × Ends told (next a) ending)
+    EndsHere told name judge ending ⊎ ((a : A) × Judged told name judge (Ok a) × Ends told (next a) ending)
 Ends told (Refuses name reason) ending = ending ≡ Refused name reason
 Ends told (Prints is) ending = ending ≡ Done
 Ends told (Writes last is) ending = ending ≡ last
@@ -126,15 +126,15 @@ pub record Follows (before behind : Inputs) : Type 0 where
   pub at_end : IsAtEnd behind.told
 
 -- a command stops at this file with this answer: the file ends it, or could not be read, or memory ran out
-abbrev pub StopsAt : {A : Type 0} → Inputs → Inputs → List ℕ → (List ℕ → Result A Reason → Type 0) → Answer → Type 0
-StopsAt before after name judge (Ended Done) = ⊥
-StopsAt before after name judge (Ended (Missing missing)) =
-    EndsAt before.told name judge (Missing missing) × Rose before.missed after.missed
-StopsAt before after name judge (Ended (Refused refused reason)) = EndsAt before.told name judge (Refused refused reason)
-StopsAt before after name judge NoCommand = ⊥
-StopsAt before after name judge (ReadFault failed) = (failed ≡ name) × Rose before.faults after.faults
-StopsAt before after name judge WriteFault = ⊥
-StopsAt before after name judge NoMemory = ⊤
+abbrev pub StopsHere : {A : Type 0} → Inputs → Inputs → List ℕ → (List ℕ → Result A Reason → Type 0) → Answer → Type 0
+StopsHere before after name judge (Ended Done) = ⊥
+StopsHere before after name judge (Ended (Missing missing)) =
+    EndsHere before.told name judge (Missing missing) × Rose before.missed after.missed
+StopsHere before after name judge (Ended (Refused refused reason)) = EndsHere before.told name judge (Refused refused reason)
+StopsHere before after name judge NoCommand = ⊥
+StopsHere before after name judge (ReadFault failed) = (failed ≡ name) × Rose before.faults after.faults
+StopsHere before after name judge WriteFault = ⊥
+StopsHere before after name judge NoMemory = ⊤
 
 -- a front of such a text was printed
 abbrev pub PrintsFront : Output → Output → (List ℕ → Type 0) → Type 0
@@ -193,7 +193,7 @@ StreamsSo before after old new name stream NoMemory = PrintsFront old new (IsTex
 -- the chain was performed from these inputs to those, and printed from this output to that, with this answer
 abbrev pub Performs : Inputs → Inputs → Output → Output → Chain → Answer → Type 0
 Performs before after old new (Reads A name judge next) answer =
-    (StopsAt before after name judge answer × (new.written ≡ old.written))
+    (StopsHere before after name judge answer × (new.written ≡ old.written))
     ⊎ ((a : A) × (behind : Inputs) × Judged before.told name judge (Ok a) × Follows before behind
     × Performs behind after old new (next a) answer)
 Performs before after old new (Refuses name reason) answer =

@@ -2,12 +2,12 @@
 use Rattle.std.specs.Prelude.{◌≡◌, ℕ, List, ◌++◌}
 use Rattle.am_addr.specs.Bits.{Span}
 use Rattle.am_domain.specs.Values.{FlowValue}
-use Rattle.am_cli.specs.commands.Check.{IsPrefixText, IsFlowLine, AreFlowLines}
+use Rattle.am_cli.specs.commands.Check.{IsPrefixShown, IsFlowLine, AreFlowLines}
 
 -- the text grew by a prefix
 pub record AddsPrefix (span : Span) (old new : List ℕ) : Type 0 where
   pub text : List ℕ
-  pub is : IsPrefixText span text
+  pub is : IsPrefixShown span text
   pub added : new ≡ old ++ text
 
 -- the text grew by the line of a flow

@@ -1,9 +1,9 @@
 -- The commands: which word names each, what the words after it say, and the chain that it performs.
 use Rattle.std.specs.Prelude.{◌≡◌, ℕ, List, ◌∷◌, codes}
 use Rattle.am_cli.specs.Chains.{Chain}
-use Rattle.am_cli.specs.commands.Link.{Link, SaysLink, link_chain}
-use Rattle.am_cli.specs.commands.Show.{Show, SaysShow, show_chain}
-use Rattle.am_cli.specs.commands.Check.{Check, SaysCheck, check_chain}
+use Rattle.am_cli.specs.commands.Link.{Link, SaysLinkWords, link_chain}
+use Rattle.am_cli.specs.commands.Show.{Show, SaysShowWords, show_chain}
+use Rattle.am_cli.specs.commands.Check.{Check, SaysCheckWords, check_chain}
 
 -- the one record that every command states
 pub record Form : Type 1 where
@@ -22,9 +22,9 @@ pub data Kind : Type 0 where
   Checking : Kind
 
 abbrev pub form : Kind → Form
-form Linking = record { verb = codes "link"; Asked = Link; says = SaysLink; chain = link_chain }
-form Showing = record { verb = codes "show"; Asked = Show; says = SaysShow; chain = show_chain }
-form Checking = record { verb = codes "check"; Asked = Check; says = SaysCheck; chain = check_chain }
+form Linking = record { verb = codes "link"; Asked = Link; says = SaysLinkWords; chain = link_chain }
+form Showing = record { verb = codes "show"; Asked = Show; says = SaysShowWords; chain = show_chain }
+form Checking = record { verb = codes "check"; Asked = Check; says = SaysCheckWords; chain = check_chain }
 
 -- a command of the program, and what it is asked
 pub record Command : Type 0 where
@@ -32,14 +32,14 @@ pub record Command : Type 0 where
   pub asked : (form kind).Asked
 
 -- the words are this command
-pub record Says (words : List (List ℕ)) (c : Command) : Type 0 where
+pub record SaysCommand (words : List (List ℕ)) (c : Command) : Type 0 where
   pub rest : List (List ℕ)
   pub verb : words ≡ (form c.kind).verb ∷ rest
   pub asked : (form c.kind).says rest c.asked
 
 -- the words are no command
 abbrev pub IsNoCommand : List (List ℕ) → Type 0
-IsNoCommand words = (c : Command) → Says words c → ⊥
+IsNoCommand words = (c : Command) → SaysCommand words c → ⊥
 
 -- the chain that a command performs
 abbrev pub chain_of : Command → Chain

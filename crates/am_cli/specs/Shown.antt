@@ -10,7 +10,7 @@ use Rattle.am_domain.specs.declared.error.DomainError.{DomainError}
 use Rattle.am_domain.specs.declared.error.DomainError.TheVariants as domain
 use Rattle.am_cli.specs.Answers as said
 use Rattle.am_cli.specs.Answers.{Answer, Ending}
-use Rattle.am_cli.specs.Chains.{Inputs, Judged, Follows, StopsAt}
+use Rattle.am_cli.specs.Chains.{Inputs, Judged, Follows, StopsHere}
 use Rattle.am_cli.specs.Forms as form
 use Rattle.am_cli.specs.commands.Link as link
 use Rattle.am_cli.specs.commands.Show as show
@@ -71,8 +71,8 @@ answer_of (Ok done) = said.Answer.Ended said.Ending.Done
 answer_of (Err stop) = stop_shown stop
 
 -- the answer is this one, or want of memory
-abbrev pub IsAnswer : Answer → Answer → Type 0
-IsAnswer wanted answer = (answer ≡ wanted) ⊎ (answer ≡ said.Answer.NoMemory)
+abbrev pub IsAnswered : Answer → Answer → Type 0
+IsAnswered wanted answer = (answer ≡ wanted) ⊎ (answer ≡ said.Answer.NoMemory)
 
 -- the answer where this file could not be read whole
 abbrev pub file_answer : List ℕ → FileFault → Answer
@@ -100,7 +100,7 @@ domain_answer name domain.Memory = said.Answer.NoMemory
 domain_answer name error = said.Answer.Ended (said.Ending.Refused (Some name) (said.Reason.BadDomain error))
 
 -- what a function answers that takes the file of this name: a value that stands for what is taken of it, or a stop at it
-abbrev pub Takes :
+abbrev pub TakesInput :
     {A T : Type 0} → Inputs → Inputs → List ℕ → (List ℕ → Result A said.Reason → Type 0) → (T → A → Type 0) → Result T Stop → Type 0
-Takes before after name judge Holds (Ok x) = (a : _) × Judged before.told name judge (Ok a) × Follows before after × Holds x a
-Takes before after name judge Holds (Err stop) = StopsAt before after name judge (stop_shown stop)
+TakesInput before after name judge Holds (Ok x) = (a : _) × Judged before.told name judge (Ok a) × Follows before after × Holds x a
+TakesInput before after name judge Holds (Err stop) = StopsHere before after name judge (stop_shown stop)

@@ -2,7 +2,7 @@
 ghost use Rattle.std.specs.Prelude.{◌≡◌, ◌++◌, Some, IfOk, OnOk, option_map, string_bytes, codes, decimal};
 ghost use Rattle.am_cli.specs.Answers as said;
 ghost use Rattle.am_cli.specs.Answers.{said_of, refusal_line, subject, reason_text, capture_text, line, status};
-ghost use Rattle.am_cli.specs.Shown.{reason_shown, stop_shown, IsAnswer, file_answer, capture_answer, stream_answer, domain_answer};
+ghost use Rattle.am_cli.specs.Shown.{reason_shown, stop_shown, IsAnswered, file_answer, capture_answer, stream_answer, domain_answer};
 
 use am_base::FileFault;
 use am_domain::DomainError;
@@ -51,7 +51,8 @@ pub enum Stop {
 impl Stop {
     /// No file has this name; or there was no memory to keep it.
     pub fn missing(alloc: Global, name: &str) -> Stop
-        ensures { IsAnswer (said.Answer.Ended (said.Ending.Missing name.now)) (stop_shown result) }
+        ensures { IsAnswered (said.Answer.Ended (said.Ending.Missing name.now))
+            (stop_shown result) }
     {
         match String::from_str(alloc, name) {
             Ok(name) => Stop::Missing { name },
@@ -61,7 +62,8 @@ impl Stop {
 
     /// This file is refused; or there was no memory to keep its name.
     pub fn refused(alloc: Global, name: &str, reason: Reason) -> Stop
-        ensures { IsAnswer (said.Answer.Ended (said.Ending.Refused (Some name.now) (reason_shown reason)))
+        ensures { IsAnswered (said.Answer.Ended (said.Ending.Refused (Some name.now)
+            (reason_shown reason)))
             (stop_shown result) }
     {
         match String::from_str(alloc, name) {
@@ -75,7 +77,7 @@ impl Stop {
 
     /// This file could not be opened or read; or there was no memory to keep its name.
     pub fn read_fault(alloc: Global, name: &str) -> Stop
-        ensures { IsAnswer (said.Answer.ReadFault name.now) (stop_shown result) }
+        ensures { IsAnswered (said.Answer.ReadFault name.now) (stop_shown result) }
     {
         match String::from_str(alloc, name) {
             Ok(name) => Stop::ReadFault { name },
@@ -85,7 +87,7 @@ impl Stop {
 
     /// This file could not be read whole.
     pub fn of_file(alloc: Global, name: &str, fault: FileFault) -> Stop
-        ensures { IsAnswer (file_answer name.now fault) (stop_shown result) }
+        ensures { IsAnswered (file_answer name.now fault) (stop_shown result) }
     {
         match fault {
             FileFault::Missing => Stop::missing(alloc, name),
@@ -97,7 +99,7 @@ impl Stop {
 
     /// This capture could not be opened or read on.
     pub fn of_capture(alloc: Global, name: &str, error: FileError) -> Stop
-        ensures { IsAnswer (capture_answer name.now error) (stop_shown result) }
+        ensures { IsAnswered (capture_answer name.now error) (stop_shown result) }
     {
         match error {
             FileError::Missing => Stop::missing(alloc, name),
@@ -110,7 +112,7 @@ impl Stop {
 
     /// The marked records of this capture could not be given.
     pub fn of_stream(alloc: Global, name: &str, error: MeterError) -> Stop
-        ensures { IsAnswer (stream_answer name.now error) (stop_shown result) }
+        ensures { IsAnswered (stream_answer name.now error) (stop_shown result) }
     {
         match error {
             MeterError::File(error) => Stop::of_capture(alloc, name, error),
@@ -122,7 +124,7 @@ impl Stop {
 
     /// The bytes of this file are no domain file.
     pub fn of_domain(alloc: Global, name: &str, error: DomainError) -> Stop
-        ensures { IsAnswer (domain_answer name.now error) (stop_shown result) }
+        ensures { IsAnswered (domain_answer name.now error) (stop_shown result) }
     {
         match error {
             DomainError::Memory => Stop::NoMemory,
@@ -199,7 +201,8 @@ fn push_subject(line: &mut String, name: &Option<String>, reason: Reason) -> Res
 
 // Adds a file's name.
 fn push_name(line: &mut String, name: &str) -> Result<(), AllocError>
-    ensures { OnOk result (string_bytes line.new ≡ string_bytes line.old ++ (name.now ++ codes ": ")) }
+    ensures { OnOk result
+        (string_bytes line.new ≡ string_bytes line.old ++ (name.now ++ codes ": ")) }
 {
     write!(line, "{name}: ")
 }

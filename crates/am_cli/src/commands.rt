@@ -4,7 +4,7 @@
 //! each of the two functions below.
 ghost use Rattle.std.specs.Prelude.{◌∷◌, map, string_bytes, IfSome, IfNone};
 ghost use Rattle.am_cli.specs.Chains.{inputs, output, Performs};
-ghost use Rattle.am_cli.specs.Forms.{Says, IsNoCommand, chain_of};
+ghost use Rattle.am_cli.specs.Forms.{SaysCommand, IsNoCommand, chain_of};
 ghost use Rattle.am_cli.specs.Shown.{command_shown, answer_of};
 
 mod check;
@@ -31,7 +31,7 @@ pub enum Command<'a> {
 
 /// The command that the words are; none where they are no command.
 pub fn command_of(words: &[String]) -> Option<Command<'_>>
-    ensures only { IfSome result (λ c. Says (map string_bytes words.now) (command_shown c)) }
+    ensures only { IfSome result (λ c. SaysCommand (map string_bytes words.now) (command_shown c)) }
     ensures none { IfNone result (IsNoCommand (map string_bytes words.now)) }
 {
     match words {
@@ -42,7 +42,8 @@ pub fn command_of(words: &[String]) -> Option<Command<'_>>
 
 // The command that this word names, with what the words after it say.
 fn command_named<'a>(verb: &str, words: &'a [String]) -> Option<Command<'a>>
-    ensures only { IfSome result (λ c. Says (verb.now ∷ map string_bytes words.now) (command_shown c)) }
+    ensures only { IfSome result
+        (λ c. SaysCommand (verb.now ∷ map string_bytes words.now) (command_shown c)) }
     ensures none { IfNone result (IsNoCommand (verb.now ∷ map string_bytes words.now)) }
 {
     if verb == "link" {
@@ -75,7 +76,8 @@ pub fn perform<S: Shelf, O: Sink>(
 ) -> Result<(), Stop>
     ensures { Performs (inputs (S.told shelf.old) (S.faults shelf.old) (S.missed shelf.old))
         (inputs (S.told shelf.new) (S.faults shelf.new) (S.missed shelf.new))
-        (output (O.written out.old) (O.faults out.old)) (output (O.written out.new) (O.faults out.new))
+        (output (O.written out.old) (O.faults out.old))
+        (output (O.written out.new) (O.faults out.new))
         (chain_of (command_shown command.now)) (answer_of result) }
 {
     match command {

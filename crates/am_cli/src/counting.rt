@@ -4,7 +4,7 @@ ghost use Rattle.am_ip6.specs.declared.marks.Place.TheVariants.{HopByHop};
 ghost use Rattle.am_cli.specs.Chains.{inputs};
 ghost use Rattle.am_cli.specs.Counting.{one_in};
 ghost use Rattle.am_cli.specs.Inputs.{JudgesCapture};
-ghost use Rattle.am_cli.specs.Shown.{Takes};
+ghost use Rattle.am_cli.specs.Shown.{TakesInput};
 ghost use Rattle.am_cli.specs.Tables.{count_in};
 ghost use Rattle.am_cli.specs.Tallies.{tally, other, IsCounted};
 
@@ -39,7 +39,8 @@ impl Point {
         requires shift { self.now.shift ≤ 2 ^ 40 }
         requires counted { IsCounted table.old }
         requires fresh { (b : ℕ) → tally table.old self.now.side b ≡ 0 }
-        ensures takes { Takes (inputs (S.told shelf.old) (S.faults shelf.old) (S.missed shelf.old))
+        ensures takes { TakesInput (inputs (S.told shelf.old) (S.faults shelf.old)
+            (S.missed shelf.old))
             (inputs (S.told shelf.new) (S.faults shelf.new) (S.missed shelf.new))
             name.now (JudgesCapture HopByHop)
             (λ done ms. (b : ℕ) → tally table.new self.now.side b

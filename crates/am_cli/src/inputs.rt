@@ -2,7 +2,7 @@
 ghost use Rattle.std.specs.Prelude.{◌≡◌};
 ghost use Rattle.am_cli.specs.Chains.{inputs};
 ghost use Rattle.am_cli.specs.Inputs.{JudgesDomain};
-ghost use Rattle.am_cli.specs.Shown.{Takes};
+ghost use Rattle.am_cli.specs.Shown.{TakesInput};
 
 use crate::answer::Stop;
 use am_base::{Shelf, read_file};
@@ -14,7 +14,7 @@ const MAX_DOMAIN: u32 = 1_048_576;
 
 /// Takes the domain of the file of this name, which is read to its end.
 pub fn take_domain<S: Shelf>(alloc: Global, shelf: &mut S, name: &str) -> Result<Domain, Stop>
-    ensures { Takes (inputs (S.told shelf.old) (S.faults shelf.old) (S.missed shelf.old))
+    ensures { TakesInput (inputs (S.told shelf.old) (S.faults shelf.old) (S.missed shelf.old))
         (inputs (S.told shelf.new) (S.faults shelf.new) (S.missed shelf.new))
         name.now JudgesDomain (λ domain d. domain ≡ d) result }
 {

@@ -5,7 +5,7 @@ ghost use Rattle.am_base.specs.Shelves.{OnTold};
 ghost use Rattle.am_cli.specs.Answers.{line, status};
 ghost use Rattle.am_cli.specs.Chains.{inputs, output};
 ghost use Rattle.am_cli.specs.Forms.{IsNoCommand};
-ghost use Rattle.am_cli.specs.Runs.{Answers, Obeys, IsDecided, Completes, Tells, IsToldAs};
+ghost use Rattle.am_cli.specs.Runs.{Answers, Obeys, IsDecided, Completes, TellsLine, IsToldAs};
 ghost use Rattle.am_cli.specs.Shown.{stop_shown, answer_of};
 
 use crate::answer::Stop;
@@ -38,16 +38,21 @@ pub fn run<S: Shelf, O: Sink, E: Sink>(
     ensures answered { Answers (map string_bytes words.now)
         (inputs (S.told shelf.old) (S.faults shelf.old) (S.missed shelf.old))
         (inputs (S.told shelf.new) (S.faults shelf.new) (S.missed shelf.new))
-        (output (O.written out.old) (O.faults out.old)) (output (O.written out.new) (O.faults out.new))
-        (output (E.written err.old) (E.faults err.old)) (output (E.written err.new) (E.faults err.new))
+        (output (O.written out.old) (O.faults out.old))
+        (output (O.written out.new) (O.faults out.new))
+        (output (E.written err.old) (E.faults err.old))
+        (output (E.written err.new) (E.faults err.new))
         result }
 
     // On a shelf that tells its files: what the inputs come to gives the status, unless a fault or want of memory does.
-    ensures decided { OnTold (S.told shelf.old) (λ t. IsDecided (map string_bytes words.now) (Some t) result) }
+    ensures decided { OnTold (S.told shelf.old)
+        (λ t. IsDecided (map string_bytes words.now) (Some t) result) }
 
     // And where nothing failed, the inputs come to an ending of this status, or memory ran out.
-    ensures complete { OnTold (S.told shelf.old) (λ t. Completes (map string_bytes words.now) (Some t)
-        (Rose (S.faults shelf.old) (S.faults shelf.new) ⊎ Rose (O.faults out.old) (O.faults out.new))
+    ensures complete { OnTold (S.told shelf.old)
+        (λ t. Completes (map string_bytes words.now) (Some t)
+        (Rose (S.faults shelf.old) (S.faults shelf.new)
+        ⊎ Rose (O.faults out.old) (O.faults out.new))
         result) }
 {
     laws();
@@ -67,7 +72,8 @@ fn obey<S: Shelf, O: Sink>(
     ensures { Obeys (map string_bytes words.now)
         (inputs (S.told shelf.old) (S.faults shelf.old) (S.missed shelf.old))
         (inputs (S.told shelf.new) (S.faults shelf.new) (S.missed shelf.new))
-        (output (O.written out.old) (O.faults out.old)) (output (O.written out.new) (O.faults out.new))
+        (output (O.written out.old) (O.faults out.old))
+        (output (O.written out.new) (O.faults out.new))
         (answer_of result) }
 {
     match command_of(words) {
@@ -78,7 +84,8 @@ fn obey<S: Shelf, O: Sink>(
 
 // Says why a command stopped, and answers the status. Where there is no memory for a line with a name, that is said.
 fn tell<E: Sink>(alloc: Global, stop: &Stop, err: &mut E) -> u8
-    ensures { IsToldAs (output (E.written err.old) (E.faults err.old)) (output (E.written err.new) (E.faults err.new))
+    ensures { IsToldAs (output (E.written err.old) (E.faults err.old)) (output
+        (E.written err.new) (E.faults err.new))
         (stop_shown stop.now) result }
 {
     match stop {
@@ -100,7 +107,8 @@ fn tell<E: Sink>(alloc: Global, stop: &Stop, err: &mut E) -> u8
 
 // Writes one line. Where it can't be written there is nobody to tell.
 fn say<E: Sink>(err: &mut E, line: &str)
-    ensures { Tells (output (E.written err.old) (E.faults err.old)) (output (E.written err.new) (E.faults err.new))
+    ensures { TellsLine (output (E.written err.old) (E.faults err.old)) (output
+        (E.written err.new) (E.faults err.new))
         line.now }
 {
     let _ = put(err, line.as_bytes());

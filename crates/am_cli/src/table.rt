@@ -53,8 +53,10 @@ impl Table {
         requires counted { IsCounted self.old }
         requires fits { tally self.old side block + 1 < 2 ^ 64 }
         ensures counted { OnOk result (IsCounted self.new) }
-        ensures here { OnOk result ((b : ℕ) → tally self.new side b ≡ tally self.old side b + one_at block b) }
-        ensures there { OnOk result ((b : ℕ) → tally self.new (other side) b ≡ tally self.old (other side) b) }
+        ensures here { OnOk result
+            ((b : ℕ) → tally self.new side b ≡ tally self.old side b + one_at block b) }
+        ensures there { OnOk result
+            ((b : ℕ) → tally self.new (other side) b ≡ tally self.old (other side) b) }
     {
         let before = match self.counts.get(&block) {
             Some(counts) => *counts,
@@ -80,7 +82,8 @@ impl Table {
     /// The text of the table: a line with the columns' names, and then one for each block, ascending.
     pub fn text(&self, alloc: Global) -> Result<String, AllocError>
         requires { IsCounted self.now }
-        ensures table { IfOk result (λ text. IsTable (tally self.now Entered) (tally self.now Left) (rows_of self.now)) }
+        ensures table { IfOk result
+            (λ text. IsTable (tally self.now Entered) (tally self.now Left) (rows_of self.now)) }
         ensures text { IfOk result (λ text. string_bytes text ≡ table_text (rows_of self.now)) }
     {
         let room = self.counts.len().saturating_mul(LINE_SIZE);
@@ -95,7 +98,8 @@ impl Table {
 
 // Adds the line of a block.
 fn push_row(text: &mut String, block: u64, counts: Counts) -> Result<(), AllocError>
-    ensures { OnOk result (string_bytes text.new ≡ string_bytes text.old ++ row_line (row_of block counts)) }
+    ensures { OnOk result
+        (string_bytes text.new ≡ string_bytes text.old ++ row_line (row_of block counts)) }
 {
     let entered = counts.entered;
     let left = counts.left;

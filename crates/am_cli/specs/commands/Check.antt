@@ -17,12 +17,12 @@ pub record Check : Type 0 where
   pub file : List ℕ
 
 -- the word after `check` is DOMAIN, and says this
-pub record SaysCheck (words : List (List ℕ)) (c : Check) : Type 0 where
+pub record SaysCheckWords (words : List (List ℕ)) (c : Check) : Type 0 where
   pub spelled : words ≡ c.file ∷ []
   pub file_name : IsFileName c.file
 
 -- a prefix is printed so: its base address (RFC 5952), a slash, and how many bits count
-pub record IsPrefixText (span : Span) (text : List ℕ) : Type 0 where
+pub record IsPrefixShown (span : Span) (text : List ℕ) : Type 0 where
   pub address : List ℕ
   pub printed : IsPrinted address (values_of span.bytes)
   pub joined : text ≡ address ++ codes "/" ++ decimal span.length
@@ -31,8 +31,8 @@ pub record IsPrefixText (span : Span) (text : List ℕ) : Type 0 where
 pub record IsFlowLine (f : FlowValue) (line : List ℕ) : Type 0 where
   pub source : List ℕ
   pub destination : List ℕ
-  pub of_source : IsPrefixText f.source source
-  pub of_destination : IsPrefixText f.destination destination
+  pub of_source : IsPrefixShown f.source source
+  pub of_destination : IsPrefixShown f.destination destination
   pub joined : line ≡ codes "flow " ++ f.name ++ codes " " ++ decimal f.id ++ codes " " ++ source ++ codes " " ++ destination ++ codes "\n"
 
 -- the lines of flows, one after another

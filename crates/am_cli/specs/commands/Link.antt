@@ -31,7 +31,7 @@ pub record SaysNumbers (block_word shift_word flow_word : List ℕ) (l : Link) :
   pub down_name : IsFileName l.down
 
 -- the words after `link` are BLOCK DMIN FLOW UP DOWN, and say this
-pub record SaysLink (words : List (List ℕ)) (l : Link) : Type 0 where
+pub record SaysLinkWords (words : List (List ℕ)) (l : Link) : Type 0 where
   pub block_word : List ℕ
   pub shift_word : List ℕ
   pub flow_word : List ℕ
@@ -39,13 +39,13 @@ pub record SaysLink (words : List (List ℕ)) (l : Link) : Type 0 where
   pub numbers : SaysNumbers block_word shift_word flow_word l
 
 -- blocks of this length, for the clocks of two points that agree and a delay that is known
-abbrev pub times_of : Link → Times
-times_of l = record { block = l.block; skew = 0; delay_min = l.shift; delay_max = l.shift }
+abbrev pub link_times : Link → Times
+link_times l = record { block = l.block; skew = 0; delay_min = l.shift; delay_max = l.shift }
 
 -- the table of both captures' records of the flow, those of the first point at shift 0 and those of the second at the least delay
 pub record IsLinkTable (l : Link) (ups downs : List Marked) (text : List ℕ) : Type 0 where
   pub rows : List Row
-  pub table : IsTable (count_in (times_of l) l.flow 0 ups) (count_in (times_of l) l.flow l.shift downs) rows
+  pub table : IsTable (count_in (link_times l) l.flow 0 ups) (count_in (link_times l) l.flow l.shift downs) rows
   pub printed : text ≡ table_text rows
 
 -- the first capture is taken whole, and then the second; their table is printed

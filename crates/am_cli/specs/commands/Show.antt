@@ -10,7 +10,7 @@ pub record Show : Type 0 where
   pub file : List ℕ
 
 -- the word after `show` is FILE, and says this
-pub record SaysShow (words : List (List ℕ)) (s : Show) : Type 0 where
+pub record SaysShowWords (words : List (List ℕ)) (s : Show) : Type 0 where
   pub spelled : words ≡ s.file ∷ []
   pub file_name : IsFileName s.file
 

@@ -5,7 +5,7 @@ ghost use Rattle.am_domain.specs.Domains.{IsLawful};
 ghost use Rattle.am_domain.specs.Network.{shift_at};
 ghost use Rattle.am_cli.specs.Chains.{inputs, output, Performs};
 ghost use Rattle.am_cli.specs.Checking.{AddsPrefix, AddsFlow, AddsFlows};
-ghost use Rattle.am_cli.specs.commands.Check.{Check, SaysCheck, IsSummary, IsPrefixText, IsFlowLine, AreFlowLines, head_lines, node_line, node_lines, link_line, name_of, check_chain};
+ghost use Rattle.am_cli.specs.commands.Check.{Check, SaysCheckWords, IsSummary, IsPrefixShown, IsFlowLine, AreFlowLines, head_lines, node_line, node_lines, link_line, name_of, check_chain};
 ghost use Rattle.am_cli.specs.Shown.{check_shown, answer_of};
 
 use crate::answer::Stop;
@@ -26,8 +26,9 @@ pub struct CheckWords<'a> {
 
 /// DOMAIN.
 pub fn words_of(words: &[String]) -> Option<CheckWords<'_>>
-    ensures only { IfSome result (λ w. SaysCheck (map string_bytes words.now) (check_shown w)) }
-    ensures none { IfNone result ((c : Check) → SaysCheck (map string_bytes words.now) c → ⊥) }
+    ensures only { IfSome result
+        (λ w. SaysCheckWords (map string_bytes words.now) (check_shown w)) }
+    ensures none { IfNone result ((c : Check) → SaysCheckWords (map string_bytes words.now) c → ⊥) }
 {
     match words {
         [file] => file_word(file.as_str()),
@@ -37,8 +38,8 @@ pub fn words_of(words: &[String]) -> Option<CheckWords<'_>>
 
 // The same, of one word.
 fn file_word(file: &str) -> Option<CheckWords<'_>>
-    ensures only { IfSome result (λ w. SaysCheck (file.now ∷ []) (check_shown w)) }
-    ensures none { IfNone result ((c : Check) → SaysCheck (file.now ∷ []) c → ⊥) }
+    ensures only { IfSome result (λ w. SaysCheckWords (file.now ∷ []) (check_shown w)) }
+    ensures none { IfNone result ((c : Check) → SaysCheckWords (file.now ∷ []) c → ⊥) }
 {
     if !is_file_name(file) {
         return None;
@@ -55,7 +56,8 @@ pub fn check<S: Shelf, O: Sink>(
 ) -> Result<(), Stop>
     ensures { Performs (inputs (S.told shelf.old) (S.faults shelf.old) (S.missed shelf.old))
         (inputs (S.told shelf.new) (S.faults shelf.new) (S.missed shelf.new))
-        (output (O.written out.old) (O.faults out.old)) (output (O.written out.new) (O.faults out.new))
+        (output (O.written out.old) (O.faults out.old))
+        (output (O.written out.new) (O.faults out.new))
         (check_chain (check_shown words.now)) (answer_of result) }
 {
     let domain = match take_domain(alloc, shelf, words.file) {
@@ -134,7 +136,8 @@ fn push_prefix(alloc: Global, text: &mut String, prefix: &Prefix) -> Result<(), 
 
 // Adds the lines of the nodes.
 fn push_nodes(text: &mut String, domain: &Domain) -> Result<(), AllocError>
-    ensures { OnOk result (string_bytes text.new ≡ string_bytes text.old ++ node_lines domain.now 0 domain.now.nodes) }
+    ensures { OnOk result (string_bytes text.new
+        ≡ string_bytes text.old ++ node_lines domain.now 0 domain.now.nodes) }
 {
     let nodes = domain.nodes();
     for i in 0..nodes.len() {
@@ -146,7 +149,8 @@ fn push_nodes(text: &mut String, domain: &Domain) -> Result<(), AllocError>
 
 // Adds the line of a node.
 fn push_node(text: &mut String, node: &Node, shift: u64) -> Result<(), AllocError>
-    ensures { OnOk result (string_bytes text.new ≡ string_bytes text.old ++ node_line node.now shift) }
+    ensures { OnOk result
+        (string_bytes text.new ≡ string_bytes text.old ++ node_line node.now shift) }
 {
     let from = node.from();
     let until = node.until();
@@ -157,7 +161,8 @@ fn push_node(text: &mut String, node: &Node, shift: u64) -> Result<(), AllocErro
 
 // Adds the lines of the links.
 fn push_links(text: &mut String, domain: &Domain) -> Result<(), AllocError>
-    ensures { OnOk result (string_bytes text.new ≡ string_bytes text.old ++ flat_map (link_line domain.now.nodes) domain.now.links) }
+    ensures { OnOk result (string_bytes text.new
+        ≡ string_bytes text.old ++ flat_map (link_line domain.now.nodes) domain.now.links) }
 {
     for link in domain.edges() {
         push_link(text, domain.nodes(), *link)?;
@@ -167,7 +172,8 @@ fn push_links(text: &mut String, domain: &Domain) -> Result<(), AllocError>
 
 // Adds the line of a link.
 fn push_link(text: &mut String, nodes: &[Node], link: Edge) -> Result<(), AllocError>
-    ensures { OnOk result (string_bytes text.new ≡ string_bytes text.old ++ link_line nodes.now link) }
+    ensures { OnOk result
+        (string_bytes text.new ≡ string_bytes text.old ++ link_line nodes.now link) }
 {
     text.push_str("link ")?;
     text.push_str(name_at(nodes, link.from))?;

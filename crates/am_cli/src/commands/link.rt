@@ -1,7 +1,7 @@
 //! The command `link`: what entered at one point, what left at the next, and what was lost between them, block by block.
 ghost use Rattle.std.specs.Prelude.{◌≡◌, ◌∷◌, [], ℕ, map, string_bytes, IfSome, IfNone};
 ghost use Rattle.am_cli.specs.Chains.{inputs, output, Performs};
-ghost use Rattle.am_cli.specs.commands.Link.{Link, SaysNumbers, SaysLink, link_chain};
+ghost use Rattle.am_cli.specs.commands.Link.{Link, SaysNumbers, SaysLinkWords, link_chain};
 ghost use Rattle.am_cli.specs.Shown.{link_shown, answer_of};
 
 use crate::answer::Stop;
@@ -33,8 +33,8 @@ pub struct LinkWords<'a> {
 
 /// BLOCK DMIN FLOW UP DOWN.
 pub fn words_of(words: &[String]) -> Option<LinkWords<'_>>
-    ensures only { IfSome result (λ w. SaysLink (map string_bytes words.now) (link_shown w)) }
-    ensures none { IfNone result ((l : Link) → SaysLink (map string_bytes words.now) l → ⊥) }
+    ensures only { IfSome result (λ w. SaysLinkWords (map string_bytes words.now) (link_shown w)) }
+    ensures none { IfNone result ((l : Link) → SaysLinkWords (map string_bytes words.now) l → ⊥) }
 {
     match words {
         [block, shift, flow, up, down] => five_words(
@@ -57,9 +57,10 @@ fn five_words<'a>(
     down: &'a str,
 ) -> Option<LinkWords<'a>>
     ensures only { IfSome result
-        (λ w. SaysLink (block.now ∷ shift.now ∷ flow.now ∷ up.now ∷ down.now ∷ []) (link_shown w)) }
+        (λ w. SaysLinkWords (block.now ∷ shift.now ∷ flow.now ∷ up.now ∷ down.now ∷ [])
+        (link_shown w)) }
     ensures none { IfNone result ((l : Link) →
-        SaysLink (block.now ∷ shift.now ∷ flow.now ∷ up.now ∷ down.now ∷ []) l → ⊥) }
+        SaysLinkWords (block.now ∷ shift.now ∷ flow.now ∷ up.now ∷ down.now ∷ []) l → ⊥) }
 {
     match numbers_of(block, shift, flow, up, down) {
         Some(words) => Some(words),
@@ -120,7 +121,8 @@ pub fn link<S: Shelf, O: Sink>(
 ) -> Result<(), Stop>
     ensures { Performs (inputs (S.told shelf.old) (S.faults shelf.old) (S.missed shelf.old))
         (inputs (S.told shelf.new) (S.faults shelf.new) (S.missed shelf.new))
-        (output (O.written out.old) (O.faults out.old)) (output (O.written out.new) (O.faults out.new))
+        (output (O.written out.old) (O.faults out.old))
+        (output (O.written out.new) (O.faults out.new))
         (link_chain (link_shown words.now)) (answer_of result) }
 {
     let mut table = Table::new(alloc);

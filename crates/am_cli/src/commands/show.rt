@@ -8,7 +8,7 @@ ghost use Rattle.am_pcap.specs.Shown.{packet_shown};
 ghost use Rattle.am_cli.specs.Chains.{inputs, output, Performs};
 ghost use Rattle.am_cli.specs.Lines.{IsLine, header_text, ending_text, seen_text};
 ghost use Rattle.am_cli.specs.Showing.{AddsFrame, AddsPacket};
-ghost use Rattle.am_cli.specs.commands.Show.{Show, SaysShow, show_chain};
+ghost use Rattle.am_cli.specs.commands.Show.{Show, SaysShowWords, show_chain};
 ghost use Rattle.am_cli.specs.Shown.{show_shown, answer_of};
 
 use crate::answer::Stop;
@@ -28,8 +28,8 @@ pub struct ShowWords<'a> {
 
 /// FILE.
 pub fn words_of(words: &[String]) -> Option<ShowWords<'_>>
-    ensures only { IfSome result (λ w. SaysShow (map string_bytes words.now) (show_shown w)) }
-    ensures none { IfNone result ((s : Show) → SaysShow (map string_bytes words.now) s → ⊥) }
+    ensures only { IfSome result (λ w. SaysShowWords (map string_bytes words.now) (show_shown w)) }
+    ensures none { IfNone result ((s : Show) → SaysShowWords (map string_bytes words.now) s → ⊥) }
 {
     match words {
         [file] => file_word(file.as_str()),
@@ -39,8 +39,8 @@ pub fn words_of(words: &[String]) -> Option<ShowWords<'_>>
 
 // The same, of one word.
 fn file_word(file: &str) -> Option<ShowWords<'_>>
-    ensures only { IfSome result (λ w. SaysShow (file.now ∷ []) (show_shown w)) }
-    ensures none { IfNone result ((s : Show) → SaysShow (file.now ∷ []) s → ⊥) }
+    ensures only { IfSome result (λ w. SaysShowWords (file.now ∷ []) (show_shown w)) }
+    ensures none { IfNone result ((s : Show) → SaysShowWords (file.now ∷ []) s → ⊥) }
 {
     if !is_file_name(file) {
         return None;
@@ -57,7 +57,8 @@ pub fn show<S: Shelf, O: Sink>(
 ) -> Result<(), Stop>
     ensures { Performs (inputs (S.told shelf.old) (S.faults shelf.old) (S.missed shelf.old))
         (inputs (S.told shelf.new) (S.faults shelf.new) (S.missed shelf.new))
-        (output (O.written out.old) (O.faults out.old)) (output (O.written out.new) (O.faults out.new))
+        (output (O.written out.old) (O.faults out.old))
+        (output (O.written out.new) (O.faults out.new))
         (show_chain (show_shown words.now)) (answer_of result) }
 {
     let name = words.file;
@@ -84,7 +85,8 @@ pub fn show<S: Shelf, O: Sink>(
 
 // The line of a record, in the place of what the text was.
 fn show_line(line: &mut String, packet: &Record<'_>, head: &Head) -> Result<(), AllocError>
-    ensures { OnOk result (IsLine head.now packet.now.number (packet_shown packet.now) (string_bytes line.new)) }
+    ensures { OnOk result
+        (IsLine head.now packet.now.number (packet_shown packet.now) (string_bytes line.new)) }
 {
     line.clear();
     push_record(
@@ -107,14 +109,17 @@ fn push_record(
     captured: usize,
     original: u32,
 ) -> Result<(), AllocError>
-    ensures { OnOk result (string_bytes line.new ≡ string_bytes line.old ++ (decimal number ++ codes " " ++ decimal reading ++ codes " " ++ decimal captured ++ codes " " ++ decimal original ++ codes " ")) }
+    ensures { OnOk result (string_bytes line.new
+        ≡ string_bytes line.old ++ (decimal number ++ codes " " ++ decimal reading ++ codes " "
+        ++ decimal captured ++ codes " " ++ decimal original ++ codes " ")) }
 {
     write!(line, "{number} {reading} {captured} {original} ")
 }
 
 // Adds what the record holds.
 fn push_frame(line: &mut String, packet: &Record<'_>, link: LinkKind) -> Result<(), AllocError>
-    ensures { OnOk result (AddsFrame link (packet_shown packet.now) (string_bytes line.old) (string_bytes line.new)) }
+    ensures { OnOk result (AddsFrame link (packet_shown packet.now)
+        (string_bytes line.old) (string_bytes line.new)) }
 {
     let whole = packet.whole();
     match packet_of(link, packet.bytes, whole) {
@@ -126,7 +131,8 @@ fn push_frame(line: &mut String, packet: &Record<'_>, link: LinkKind) -> Result<
 
 // Adds an IPv6 packet: its chain, and the mark in each kind of header.
 fn push_packet(line: &mut String, packet: &[u8], whole: bool) -> Result<(), AllocError>
-    ensures { OnOk result (AddsPacket packet.now whole (string_bytes line.old) (string_bytes line.new)) }
+    ensures { OnOk result
+        (AddsPacket packet.now whole (string_bytes line.old) (string_bytes line.new)) }
 {
     line.push_str("ip6 ")?;
     push_headers(line, packet, whole)?;
@@ -139,7 +145,8 @@ fn push_packet(line: &mut String, packet: &[u8], whole: bool) -> Result<(), Allo
 
 // Adds the headers of a packet's chain.
 fn push_headers(line: &mut String, packet: &[u8], whole: bool) -> Result<(), AllocError>
-    ensures { OnOk result ((hs : List Lent) × HasHeaders packet.now hs × (string_bytes line.new ≡ string_bytes line.old ++ flat_map header_text hs)) }
+    ensures { OnOk result ((hs : List Lent) × HasHeaders packet.now hs ×
+        (string_bytes line.new ≡ string_bytes line.old ++ flat_map header_text hs)) }
 {
     for header in Walk::over(packet, whole) {
         push_header(line, header.kind, header.bytes.len())?;
@@ -149,14 +156,16 @@ fn push_headers(line: &mut String, packet: &[u8], whole: bool) -> Result<(), All
 
 // Adds one header, and the comma behind it.
 fn push_header(line: &mut String, kind: u8, length: usize) -> Result<(), AllocError>
-    ensures { OnOk result (string_bytes line.new ≡ string_bytes line.old ++ (decimal kind ++ codes ":" ++ decimal length ++ codes ",")) }
+    ensures { OnOk result (string_bytes line.new
+        ≡ string_bytes line.old ++ (decimal kind ++ codes ":" ++ decimal length ++ codes ",")) }
 {
     write!(line, "{kind}:{length},")
 }
 
 // Adds how a chain ends.
 fn push_ending(line: &mut String, ending: Ending) -> Result<(), AllocError>
-    ensures { OnOk result (string_bytes line.new ≡ string_bytes line.old ++ ending_text (ending_shown ending)) }
+    ensures { OnOk result
+        (string_bytes line.new ≡ string_bytes line.old ++ ending_text (ending_shown ending)) }
 {
     match ending {
         Ending::End { next, .. } => write!(line, "={next}"),
@@ -167,7 +176,8 @@ fn push_ending(line: &mut String, ending: Ending) -> Result<(), AllocError>
 
 // Adds what is found of a mark.
 fn push_found(line: &mut String, found: &Found) -> Result<(), AllocError>
-    ensures { OnOk result (string_bytes line.new ≡ string_bytes line.old ++ seen_text (seen_shown found.now)) }
+    ensures { OnOk result
+        (string_bytes line.new ≡ string_bytes line.old ++ seen_text (seen_shown found.now)) }
 {
     match found {
         Found::Marked { mark, .. } => push_mark(line, mark.flow(), mark.loss(), mark.delay()),
@@ -178,7 +188,9 @@ fn push_found(line: &mut String, found: &Found) -> Result<(), AllocError>
 
 // Adds a mark: the flow, the loss bit and the delay bit.
 fn push_mark(line: &mut String, flow: u32, loss: bool, delay: bool) -> Result<(), AllocError>
-    ensures { OnOk result (string_bytes line.new ≡ string_bytes line.old ++ (decimal flow ++ codes "/" ++ decimal (bit loss) ++ codes "/" ++ decimal (bit delay))) }
+    ensures { OnOk result (string_bytes line.new
+        ≡ string_bytes line.old ++ (decimal flow ++ codes "/" ++ decimal (bit loss)
+        ++ codes "/" ++ decimal (bit delay))) }
 {
     let loss = bit_of(loss);
     let delay = bit_of(delay);

@@ -1,5 +1,5 @@
 use Rattle.std.proofs.Common.{◌++◌, ap, subst, ◌∙◌, refl, codes, decimal, string_bytes}
-use Rattle.am_cli.specs.commands.Check.{IsPrefixText}
+use Rattle.am_cli.specs.commands.Check.{IsPrefixShown}
 use Rattle.am_cli.proofs.LineLemmas.{flow_pieces}
 use Rattle.am_cli.proofs.commands.check.push_flow.Goals as goal
 
@@ -12,8 +12,8 @@ returns c =
       is = record {
         source = source.text;
         destination = destination.text;
-        of_source = subst (λ x. IsPrefixText x source.text) c.source.ensures source.is;
-        of_destination = subst (λ x. IsPrefixText x destination.text) c.destination.ensures destination.is;
+        of_source = subst (λ x. IsPrefixShown x source.text) c.source.ensures source.is;
+        of_destination = subst (λ x. IsPrefixShown x destination.text) c.destination.ensures destination.is;
         joined = refl;
       };
       added = flow_pieces (string_bytes c.args.text.now) (string_bytes c.push_str.new.self) (string_bytes c.push_str-2.new.self) (string_bytes c.write.new.self)
