@@ -11,6 +11,8 @@ mod inputs;
 mod laws;
 mod run;
 mod table;
+#[cfg(test)]
+mod tests;
 mod words;
 
 use am_base::{DiskShelf, StdSink};
