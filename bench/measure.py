@@ -3,7 +3,7 @@
 
     measure.py PROGRAM FOLDER NETWORK [PAIR..]
 
-FOLDER has the built programs `captures` and `spawn`, and gets a folder for each pair, of which the big files are removed
+FOLDER has the built programs `captures`, `spawn` and `tight`, and gets a folder for each pair, of which the big files are removed
 once it is measured. NETWORK is the script that writes domain files, and `domain` names the one beside the pairs. A pair is
 measured only where every table is right, and the domain file where its summary is. All output goes to /dev/null while it is
 measured. The files were just written and read, so they come from memory. Runs take turns, and the least time of each counts,
@@ -27,18 +27,20 @@ class Pair:
     what: str
     words: list  # of captures.c
     rounds: int
+    most_to_tight: float  # how many times the time of tight C `link` should take at most
     shown: bool = True  # whether the lines of `show` are compared
 
 
 PAIRS = [
-    Pair("short", "1,000,000 records, 64 bytes captured of each", ["-n", "1000000", "-s", "64", "-t"], 11),
-    Pair("tenfold", "10,000,000 records, 64 bytes captured of each", ["-n", "10000000", "-s", "64"], 3, shown=False),
-    Pair("whole", "1,000,000 records of 1,500 bytes", ["-n", "1000000", "-l", "1500", "-g", "1500", "-s", "1500", "-t"], 7),
+    Pair("short", "1,000,000 records, 64 bytes captured of each", ["-n", "1000000", "-s", "64", "-t"], 11, 1.15),
+    Pair("tenfold", "10,000,000 records, 64 bytes captured of each", ["-n", "10000000", "-s", "64"], 3, 1.15, shown=False),
+    Pair("whole", "1,000,000 records of 1,500 bytes", ["-n", "1000000", "-l", "1500", "-g", "1500", "-s", "1500", "-t"], 7, 1.0),
     Pair(
         "ethernet",
         "100,000 records, 78 bytes captured of each: Ethernet, big-endian, microseconds",
         ["-n", "100000", "-s", "78", "-e", "-b", "-u", "-t"],
         21,
+        1.15,
     ),
 ]
 
@@ -67,6 +69,7 @@ class Bench:
     def __init__(self, program, folder):
         self.program, self.folder = program, folder
         self.spawn = os.path.join(folder, "spawn")
+        self.tight = os.path.join(folder, "tight")
         self.cat = shutil.which("cat")
         self.tcpdump = find_tcpdump()
 
@@ -115,7 +118,7 @@ class Measured:
     def __init__(self, bench, pair):
         self.bench, self.pair = bench, pair
         self.folder = os.path.join(bench.folder, pair.name)
-        self.cat, self.link, self.cat_up, self.show, self.tcpdump = (Runs() for _ in range(5))
+        self.cat, self.link, self.tight, self.cat_up, self.show, self.tcpdump = (Runs() for _ in range(6))
 
     def make(self):
         os.makedirs(self.folder, exist_ok=True)
@@ -137,6 +140,9 @@ class Measured:
     def link_words(self, flow):
         return [self.bench.program, "link", *self.words, str(flow), UP, DOWN]
 
+    def tight_words(self, flow):
+        return [self.bench.tight, *self.words, str(flow), UP, DOWN]
+
     def show_words(self):
         return [self.bench.program, "show", UP]
 
@@ -144,13 +150,14 @@ class Measured:
         return os.path.join(self.folder, f"table-{flow}")
 
     def is_right(self):
-        """Whether the program prints what captures.c counted, and tcpdump counts as many packets."""
+        """Whether the program and tight.c print what captures.c counted, and tcpdump counts as many packets."""
         printed = os.path.join(self.folder, "printed")
         for flow in self.flows:
-            self.run(self.link_words(flow), printed)
-            if not same(printed, self.table(flow)):
-                print(f"  table of flow {flow}: wrong")
-                return False
+            for whose, words in (("link", self.link_words(flow)), ("tight.c", self.tight_words(flow))):
+                self.run(words, printed)
+                if not same(printed, self.table(flow)):
+                    print(f"  table of flow {flow} by {whose}: wrong")
+                    return False
         blocks = len(read(self.table(self.flows[0])).splitlines()) - 1
         print(f"  tables: right ({len(self.flows)} flows, {blocks} blocks)")
         if self.pair.shown:
@@ -178,6 +185,7 @@ class Measured:
         for _ in range(self.pair.rounds):
             self.cat.add(*self.run([self.bench.cat, UP, DOWN]))
             self.link.add(*self.run(self.link_words(self.flows[0])))
+            self.tight.add(*self.run(self.tight_words(self.flows[0])))
             self.cat_up.add(*self.run([self.bench.cat, UP]))
             self.show.add(*self.run(self.show_words()))
             if self.bench.tcpdump:
@@ -192,6 +200,9 @@ class Measured:
         link, show, tcpdump = self.times_cat()
         print(f"  cat of both files:      {ms(self.cat)}")
         print(f"  link:                   {ms(self.link)}  {link:6.2f} times cat of both")
+        tight, most = self.link.took / self.tight.took, self.pair.most_to_tight
+        print(f"  tight C of both files:  {ms(self.tight)}")
+        print(f"  link / tight C:         {tight:.2f} (target: at most {most:.2f}: {met(tight <= most)})")
         print(f"  cat of one file:        {ms(self.cat_up)}")
         print(f"  show of one file:       {ms(self.show)}  {show:6.2f} times cat of one")
         if self.bench.tcpdump:
@@ -204,8 +215,8 @@ class Measured:
     def row(self, about):
         """The row of the table in README.md."""
         link, show, tcpdump = self.times_cat()
-        times = [ms(self.cat), ms(self.link), ms(self.show)]
-        ratios = [f"{link:.1f}", f"{show:.1f}"]
+        times = [ms(self.cat), ms(self.link), ms(self.tight), ms(self.show)]
+        ratios = [f"{self.link.took / self.tight.took:.2f}", f"{link:.1f}", f"{show:.1f}"]
         if self.bench.tcpdump:
             times.append(ms(self.tcpdump))
             ratios += [f"{tcpdump:.1f}", f"{self.link.took / self.tcpdump.took:.2f}"]

@@ -1,6 +1,6 @@
 #!/usr/bin/env bash
-# Measures `link` and `show` over big captures: first that what they print is right, then their times beside those of `cat`
-# and `tcpdump` over the same files, and their peak memory; and `check` over the greatest domain, in the same way. The words
+# Measures `link` and `show` over big captures: first that what they print is right, then their times beside those of `cat`,
+# of a tight C program and of `tcpdump` over the same files, and their peak memory; and `check` over the greatest domain, in the same way. The words
 # name pairs of captures, or are `domain`; without any all are measured. Status 0 where all that was printed is right, whether
 # or not a target is met.
 set -u
@@ -15,7 +15,7 @@ if ! command -v "$compiler" >/dev/null; then
     exit 1
 fi
 mkdir -p -- "$out" || exit 1
-for tool in captures spawn; do
+for tool in captures spawn tight; do
     "$compiler" -O2 -o "$out/$tool" "$here/$tool.c" || exit 1
 done
 

@@ -3,6 +3,7 @@ pub mod Listing
 pub mod Gap
 pub mod Bytes
 pub mod Alike
+pub mod MaskLemmas
 pub mod Slash
 pub mod Runs
 pub mod ReadBack

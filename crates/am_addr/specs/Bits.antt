@@ -1,5 +1,5 @@
 -- The first bits of an address, and the texts that stand for them (RFC 4291, section 2.3).
-use Rattle.std.specs.Prelude.{◌≡◌, ℕ, ◌+◌, ◌-◌, ◌*◌, ◌/◌, ◌^◌, ◌<◌, ◌≤◌, min, List, [], ◌∷◌, ◌++◌, length}
+use Rattle.std.specs.Prelude.{◌≡◌, ℕ, ◌+◌, ◌-◌, ◌*◌, ◌/◌, ◌^◌, ◌<◌, ◌≤◌, min, List, [], ◌∷◌, ◌++◌, length, replicate}
 use Rattle.am_addr.specs.Text.{IsTextOf}
 
 -- the byte with each bit past the first ones, so many, set to 0
@@ -10,6 +10,10 @@ kept count byte = byte / 2 ^ (8 - count) * 2 ^ (8 - count)
 abbrev pub cleared : ℕ → List ℕ → List ℕ
 cleared count [] = []
 cleared count (b ∷ bs) = kept (min count 8) b ∷ cleared (count - 8) bs
+
+-- sixteen bytes whose first bits, so many, are 1, and whose others are 0
+abbrev pub ones : ℕ → List ℕ
+ones count = cleared count (replicate 16 255)
 
 -- the first bits, so many, are the same
 abbrev pub BeginAlike : ℕ → List ℕ → List ℕ → Type 0

@@ -7,10 +7,12 @@ mod address;
 mod groups;
 mod laws;
 mod list;
+mod mask;
 mod prefix;
 mod printed;
 
 pub use address::{Addr, parse};
 pub use laws::prefix_text_law;
+pub use mask::Mask;
 pub use prefix::Prefix;
 pub use printed::print;

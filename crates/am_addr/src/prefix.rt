@@ -103,15 +103,18 @@ fn begin_alike(xs: &[u8; 16], ys: &[u8; 16], length: u8) -> bool
 }
 
 // The address with each bit past this many set to 0.
-fn front_of(addr: &Addr, length: u8) -> Addr
+pub(crate) fn front_of(addr: &Addr, length: u8) -> Addr
     ensures { result.0 ≡ cleared length addr.now.0 }
 {
     let mut bytes = addr.0;
-    let mut left = length;
+    let mut rest = length;
     for byte in &mut bytes {
-        let count = left.min(8);
-        *byte = keep(*byte, count);
-        left -= count;
+        if rest >= 8 {
+            rest -= 8;
+        } else {
+            *byte = keep(*byte, rest);
+            rest = 0;
+        }
     }
     Addr(bytes)
 }

@@ -1,3 +1,4 @@
 pub mod Appends
 pub mod Files
+pub mod Gathering
 pub mod Reading

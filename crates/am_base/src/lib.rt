@@ -8,6 +8,7 @@
 //! Nothing here knows of packets, captures or marks.
 #![tactic(auto)]
 
+mod buffer;
 mod failing;
 mod file;
 mod mem_shelf;
@@ -17,6 +18,7 @@ mod shelf;
 mod sink;
 mod system;
 
+pub use buffer::{Buffer, MAX_HELD};
 pub use file::{FileFault, read_file};
 pub use mem_shelf::MemShelf;
 pub use mem_sink::MemSink;

@@ -1,7 +1,7 @@
 //! Rows from outside, one call of each kind with enough memory, failures in mid-stream, and real files and streams.
 use crate::{
-    DiskShelf, Fault, FileFault, MemShelf, MemSink, OpenError, Shelf, Sink, StdSink, be16, be32,
-    decimal, le16, le32, put, read_file,
+    Buffer, DiskShelf, Fault, FileFault, MemShelf, MemSink, OpenError, Shelf, Sink, StdSink, be16,
+    be32, decimal, le16, le32, put, read_file,
 };
 use std::alloc::{AllocError, Global};
 use std::fs;
@@ -205,6 +205,57 @@ fn a_full_sink_still_takes_nothing(rt: HostRuntime) -> Result<(), Fail> {
         assert_eq!(rt; sink.write(piece.as_bytes()), want, "{piece}");
     }
     assert_eq!(rt; sink.bytes(), b"12".as_slice());
+    Ok(())
+}
+
+#[test]
+fn a_buffer_hands_on_at_its_edge(rt: HostRuntime) -> Result<(), Fail> {
+    let alloc = rt.alloc();
+    // how many bytes come first, how many then, and how many of them are written before the flush
+    for (first, then, before) in [
+        (65_535, 1, 0),
+        (65_536, 0, 0),
+        (65_535, 2, 65_535),
+        (65_536, 1, 65_536),
+        (1, 65_536, 1),
+        (1, 65_537, 65_538),
+        (0, 65_537, 65_537),
+    ] {
+        let mut bytes = bytes_of(alloc, first)?;
+        let more = bytes_of(alloc, then)?;
+        let mut sink = MemSink::new(alloc, 140_000, Vec::new(alloc))?;
+        let mut buffer = Buffer::new(alloc)?;
+        assert_eq!(rt; buffer.write(&mut sink, &bytes), Ok(()), "{first} {then}");
+        assert_eq!(rt; buffer.write(&mut sink, &more), Ok(()), "{first} {then}");
+        assert_eq!(rt; sink.bytes().len(), before, "{first} {then}");
+        assert_eq!(rt; buffer.flush(&mut sink), Ok(()), "{first} {then}");
+        bytes.extend_from_slice(&more)?;
+        assert!(rt; sink.bytes() == bytes.as_slice(), "{first} {then}");
+    }
+    Ok(())
+}
+
+// How many of three writes and a flush go well before the first that doesn't.
+fn done_of(buffer: &mut Buffer, sink: &mut MemSink, piece: &[u8]) -> u64 {
+    for n in 0..3 {
+        if buffer.write(sink, piece).is_err() {
+            return n;
+        }
+    }
+    if buffer.flush(sink).is_err() { 3 } else { 4 }
+}
+
+#[test]
+fn a_fault_leaves_a_buffer_empty(rt: HostRuntime) -> Result<(), Fail> {
+    let alloc = rt.alloc();
+    let piece = bytes_of(alloc, 40_000)?;
+    for (bad, done, written) in [(1, 1, 0), (2, 2, 40_000), (3, 3, 80_000), (4, 4, 120_000)] {
+        let mut sink = MemSink::new(alloc, 120_000, vec![in alloc; bad]?)?;
+        let mut buffer = Buffer::new(alloc)?;
+        assert_eq!(rt; done_of(&mut buffer, &mut sink, &piece), done, "{bad}");
+        assert_eq!(rt; buffer.flush(&mut sink), Ok(()), "{bad}");
+        assert_eq!(rt; sink.bytes().len(), written, "{bad}");
+    }
     Ok(())
 }
 

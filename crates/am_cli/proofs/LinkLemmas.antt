@@ -3,21 +3,10 @@ use Rattle.std.proofs.Common.{◌≡◌, ℕ, ◌+◌, ◌≤◌, List, [], ◌�
 use Rattle.std.proofs.lemmas.List.Sums.{sum_by-append, count_by-le-length}
 use Rattle.am_clock.specs.Times.{Times}
 use Rattle.am_cli.specs.Counting.{one_in}
-use Rattle.std.proofs.lemmas.List.Elements.{All-weaker}
 use Rattle.am_meter.specs.declared.stream.Marked.{Marked}
 use Rattle.am_cli.specs.Tables.{Row, IsTable, counts_in, count_in, table_text}
 use Rattle.am_cli.specs.commands.Link.{Link, IsLinkTable, link_times}
-
--- a table of these counts is one of equal counts
-table-of-same :
-    (e f l m : ℕ → ℕ) (rows : List Row) → ((b : ℕ) → e b ≡ f b) → ((b : ℕ) → l b ≡ m b) → IsTable e l rows → IsTable f m rows
-table-of-same e f l m rows same_e same_l t = record {
-  ascending = t.ascending;
-  entered = All-weaker (λ r. r.entered ≡ e r.block) (λ r. r.entered ≡ f r.block) (λ r h. h ∙ same_e r.block) rows t.entered;
-  left = All-weaker (λ r. r.left ≡ l r.block) (λ r. r.left ≡ m r.block) (λ r h. h ∙ same_l r.block) rows t.left;
-  each = t.each;
-  every = λ b h. t.every b (omega (arith, same_e b, same_l b));
-}
+use Rattle.am_cli.proofs.TableLemmas.{table-of-same}
 
 -- what was counted at the first point, and stayed while the second was counted, and what was counted there make the table
 pub link-table :

@@ -26,25 +26,6 @@ AreLines-more k number (q ∷ qs) text last p line h is l =
     let next : last ≡ number + 1 + length qs = omega arith in
     (h.0, h.1 ++ line, h.2, AreLines-more k (number + 1) qs h.1 last p line h.3 next l, ap (λ t. t ++ line) h.4 ∙ append_assoc h.0 h.1 line)
 
--- two pieces in a row are one
-pub appended_twice : (w v u : Option (List ℕ)) (a b : List ℕ) → v ≡ append_known w a → u ≡ append_known v b → u ≡ append_known w (a ++ b)
-appended_twice None v u a b e f = f ∙ ap (λ x. append_known x b) e
-appended_twice (Some xs) v u a b e f = f ∙ ap (λ x. append_known x b) e ∙ ap Some (append_assoc xs a b)
-
--- a front of the last piece is a front of all
-pub appended_front :
-    (w v u : Option (List ℕ)) (a b : List ℕ) (k : ℕ)
-    → v ≡ append_known w a
-    → u ≡ append_known v (take k b)
-    → u ≡ append_known w (take (length a + k) (a ++ b))
-appended_front w v u a b k e f =
-    appended_twice w v u a (take k b) e f ∙ ap (λ x. append_known w x) (sym (take-append-add a b k))
-
--- nothing appended
-pub appended_nothing : (w : Option (List ℕ)) → w ≡ append_known w []
-appended_nothing None = refl
-appended_nothing (Some xs) = ap Some (sym (append-nil xs))
-
 -- the pieces of a packet's text, one after another
 pub packet_pieces :
     (l0 l1 l2 l3 l4 l5 l6 l7 word headers ending space first second : List ℕ)

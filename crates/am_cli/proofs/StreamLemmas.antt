@@ -5,7 +5,7 @@ use Rattle.std.proofs.lemmas.List.{length-append}
 use Rattle.std.specs.Io.KnownBytes.{append_known}
 use Rattle.am_base.specs.Counts.{Rose}
 use Rattle.am_base.specs.Shelves.{Told}
-use Rattle.am_base.specs.Sinks.{AppendsFront}
+use Rattle.am_base.specs.Sinks.{IsWrittenOf, HandsIn, BreaksOff, WritesAll, WritesFront}
 use Rattle.am_pcap.specs.Packets.{Packet}
 use Rattle.am_pcap.specs.Answers.{GivesRecord, EndsReading, StopsReading}
 use Rattle.am_pcap.specs.CaptureFiles.{ReadsOn, WhyNotOpened}
@@ -20,9 +20,9 @@ use Rattle.am_cli.specs.Answers.Answer.{Ended, WriteFault, NoMemory}
 use Rattle.am_cli.specs.Chains.{Inputs, Output, Stream, StreamsSo, IsTextOfFirst}
 use Rattle.am_cli.specs.Shown.{IsAnswered, capture_answer}
 use Rattle.am_cli.proofs.ChainLemmas.{rose-later, whole-front, nothing}
-use Rattle.am_cli.proofs.ShowSteps.{appended_twice, appended_front}
+use Rattle.am_cli.specs.Showing.{Flushes}
 
--- the capture was read on, and what is printed of the packets that were given was printed
+-- the capture was read on, and what is printed of the packets that were given was written
 pub record Streaming (before now : Inputs) (old out : Output) (name : List ℕ) (stream : Stream) (c : Reading) (h : Head) : Type 0 where
   pub packets : List Packet
   pub text : List ℕ
@@ -32,6 +32,64 @@ pub record Streaming (before now : Inputs) (old out : Output) (name : List ℕ) 
   pub faults : before.faults ≤ now.faults
   pub missed : before.missed ≤ now.missed
   pub out_faults : old.faults ≤ out.faults
+
+-- the same, where the last of it may still be held
+pub record Gathering (before now : Inputs) (old out : Output) (held name : List ℕ) (stream : Stream) (c : Reading) (h : Head) : Type 0 where
+  pub packets : List Packet
+  pub text : List ℕ
+  pub on : ReadsOn before.told now.told name c h packets
+  pub printed : stream.text_of h packets text
+  pub gathered : IsWrittenOf old.written out.written held text
+  pub faults : before.faults ≤ now.faults
+  pub missed : before.missed ≤ now.missed
+  pub out_faults : old.faults ≤ out.faults
+
+-- all that was held was written
+pub handed-on :
+    (before now : Inputs) (old out new : Output) (held name : List ℕ) (stream : Stream) (c : Reading) (h : Head)
+    → Gathering before now old out held name stream c h
+    → WritesAll out.written held new.written → out.faults ≤ new.faults
+    → Streaming before now old new name stream c h
+handed-on before now old out new held name stream c h s all faults = record {
+  packets = s.packets;
+  text = s.text;
+  on = s.on;
+  printed = s.printed;
+  appended = all old.written s.text s.gathered;
+  faults = s.faults;
+  missed = s.missed;
+  out_faults = omega (arith, s.out_faults, faults);
+}
+
+-- the output failed where the rest was to be written
+pub stream-unflushed :
+    (before now after : Inputs) (old out new : Output) (held name : List ℕ) (stream : Stream) (c : Reading) (h : Head)
+    → Gathering before now old out held name stream c h
+    → WritesFront out.written held new.written → Rose out.faults new.faults
+    → StreamsSo before after old new name stream WriteFault
+stream-unflushed before now after old out new held name stream c h s front rose = (
+  rose-later old.faults out.faults new.faults s.out_faults rose,
+  (
+    s.text,
+    inr (inl (record { head = h; packets = s.packets; begins = s.on.begins; printed = s.printed })),
+    front old.written s.text s.gathered,
+  ),
+)
+
+-- an answer that follows where all was written, after the flush before it
+pub stream-flushed :
+    (before now after : Inputs) (old out new : Output) (held name : List ℕ) (stream : Stream) (c : Reading) (h : Head) (wanted answer : Answer)
+    → Gathering before now old out held name stream c h
+    → Flushes out held new wanted answer
+    → (Streaming before now old new name stream c h → StreamsSo before after old new name stream wanted)
+    → StreamsSo before after old new name stream answer
+stream-flushed before now after old out new held name stream c h wanted answer s flushes follows =
+    elim flushes [
+      | inl f ↦ subst (λ a. StreamsSo before after old new name stream a) (sym f.0)
+          (follows (handed-on before now old out new held name stream c h s f.1 f.2))
+      | inr f ↦ subst (λ a. StreamsSo before after old new name stream a) (sym f.0)
+          (stream-unflushed before now after old out new held name stream c h s f.1 f.2)
+    ]
 
 first :
     (before now : Inputs) (old out : Output) (name : List ℕ) (stream : Stream) (c : Reading) (h : Head) → (s : Streaming before now old out name stream c h)
@@ -126,44 +184,45 @@ stream-stopped before now after old out name stream c h e answer s stops failed 
     answered before after old out name stream (capture_answer name e) answer (stopped before now after old out name stream c h e s stops failed)
     (stream-memory before now after old out name stream c h s) is
 
--- one more record was given, and its line printed
+-- one more record was given, and its line handed in
 pub stream-more :
-    (before now after : Inputs) (old out new : Output) (name : List ℕ) (stream : Stream) (c n : Reading) (h : Head) (p : Packet) (line : List ℕ)
-    → (s : Streaming before now old out name stream c h)
+    (before now after : Inputs) (old out new : Output) (held kept name : List ℕ) (stream : Stream) (c n : Reading) (h : Head) (p : Packet) (line : List ℕ)
+    → (s : Gathering before now old out held name stream c h)
     → ReadsOn before.told after.told name n h (s.packets ++ p ∷ []) → stream.text_of h (s.packets ++ p ∷ []) (s.text ++ line)
-    → new.written ≡ append_known out.written line
+    → HandsIn out.written held line new.written kept
     → now.faults ≤ after.faults → now.missed ≤ after.missed → out.faults ≤ new.faults
-    → Streaming before after old new name stream n h
-stream-more before now after old out new name stream c n h p line s on printed appended faults missed out_faults = record {
+    → Gathering before after old new kept name stream n h
+stream-more before now after old out new held kept name stream c n h p line s on printed handed faults missed out_faults = record {
   packets = s.packets ++ p ∷ [];
   text = s.text ++ line;
   on = on;
   printed = printed;
-  appended = appended_twice old.written out.written new.written s.text line s.appended appended;
+  gathered = handed old.written s.text s.gathered;
   faults = omega (arith, s.faults, faults);
   missed = omega (arith, s.missed, missed);
   out_faults = omega (arith, s.out_faults, out_faults);
 }
 
--- a front of the line of one more record was printed
+-- the output failed where the line of one more record was handed in
 pub stream-unwritten :
-    (before now after : Inputs) (old out new : Output) (name : List ℕ) (stream : Stream) (c n : Reading) (h : Head) (p : Packet) (line : List ℕ)
-    → (s : Streaming before now old out name stream c h)
+    (before now after : Inputs) (old out new : Output) (held name : List ℕ) (stream : Stream) (c n : Reading) (h : Head) (p : Packet) (line : List ℕ)
+    → (s : Gathering before now old out held name stream c h)
     → ReadsOn before.told after.told name n h (s.packets ++ p ∷ []) → stream.text_of h (s.packets ++ p ∷ []) (s.text ++ line)
-    → AppendsFront out.written new.written line → Rose out.faults new.faults
+    → BreaksOff out.written held line new.written → Rose out.faults new.faults
     → StreamsSo before after old new name stream WriteFault
-stream-unwritten before now after old out new name stream c n h p line s on printed front rose = (
+stream-unwritten before now after old out new held name stream c n h p line s on printed breaks rose = (
   rose-later old.faults out.faults new.faults s.out_faults rose,
   (
     s.text ++ line,
     inr (inl (record { head = h; packets = s.packets ++ p ∷ []; begins = on.begins; printed = printed })),
-    (
-      length s.text + front.0,
-      omega (arith, front.1, length-append s.text line),
-      appended_front old.written out.written new.written s.text line front.0 s.appended front.2,
-    ),
+    breaks old.written s.text s.gathered,
   ),
 )
+
+-- no memory for the buffer: nothing was printed
+pub stream-unbegun :
+    (before after : Inputs) (out : Output) (name : List ℕ) (stream : Stream) → StreamsSo before after out out name stream NoMemory
+stream-unbegun before after out name stream = ([], inl refl, whole-front out.written out.written [] (nothing out.written))
 
 -- what is said of an answer with a record
 pub gave-record :

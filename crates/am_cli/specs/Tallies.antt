@@ -1,5 +1,5 @@
 -- What a `Table` holds: for each side, how many packets of each block.
-use Rattle.std.specs.Prelude.{ℕ, ◌+◌, ◌<◌, ◌==◌, List, map, IfSome, option_map, unwrap_or, if◌then◌else◌}
+use Rattle.std.specs.Prelude.{◌≡◌, ℕ, ◌+◌, ◌<◌, ◌==◌, List, map, None, IfSome, option_map, unwrap_or, if◌then◌else◌}
 use Rattle.std.specs.BTreeMap.{get}
 use Rattle.std.specs.Ordering.{nat_cmp}
 use Rattle.am_cli.specs.Tables.{Row}
@@ -17,13 +17,23 @@ abbrev pub other : Side → Side
 other Entered = Left
 other Left = Entered
 
--- how many packets of a block a table has on one side
+-- how many packets of a block the map has on one side
+abbrev pub settled : Table → Side → ℕ → ℕ
+settled t side block = unwrap_or (option_map (count_of side) (get nat_cmp t.counts block)) 0
+
+-- how many packets of a block a table has on one side: those of the block that was counted last stand beside the map
 abbrev pub tally : Table → Side → ℕ → ℕ
-tally t side block = unwrap_or (option_map (count_of side) (get nat_cmp t.counts block)) 0
+tally t side block = if t.block == block then count_of side t.here else settled t side block
+
+-- the map has no block without a packet
+abbrev pub IsSettled : Table → Type 0
+IsSettled t = (block : ℕ) → IfSome (get nat_cmp t.counts block) (λ c. 0 < c.entered + c.left)
 
 -- a table has no block without a packet
-abbrev pub IsCounted : Table → Type 0
-IsCounted t = (block : ℕ) → IfSome (get nat_cmp t.counts block) (λ c. 0 < c.entered + c.left)
+pub record IsCounted (t : Table) : Type 0 where
+  pub settled : IsSettled t
+  -- where the block beside the map has none, the map doesn't have it
+  pub here : t.here.entered + t.here.left ≡ 0 → get nat_cmp t.counts t.block ≡ None
 
 -- one at this block, and none at the others
 abbrev pub one_at : ℕ → ℕ → ℕ

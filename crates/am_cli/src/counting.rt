@@ -81,10 +81,12 @@ impl Point {
         if marked.mark.flow() != self.flow {
             return Ok(());
         }
-        match self
-            .timing
-            .attribute(marked.reading, marked.mark.loss(), self.shift)
-        {
+        match self.timing.attribute_near(
+            table.last(),
+            marked.reading,
+            marked.mark.loss(),
+            self.shift,
+        ) {
             Some(block) => table.count(self.side, block),
             None => Ok(()),
         }

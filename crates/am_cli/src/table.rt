@@ -2,6 +2,7 @@
 ghost use Rattle.std.specs.Prelude.{◌≡◌, ◌+◌, ◌^◌, ◌<◌, ◌++◌, ◌-ℤ◌, pos, ℕ, OnOk, IfOk, string_bytes};
 ghost use Rattle.am_cli.specs.Tables.{IsTable, row_line, table_text};
 ghost use Rattle.am_cli.specs.Tallies.{row_of};
+ghost use Rattle.am_cli.specs.declared.table.Side.{Side};
 
 use std::alloc::{AllocError, Global};
 use std::collections::BTreeMap;
@@ -20,6 +21,12 @@ pub struct Counts {
     pub left: u64,
 }
 
+// No packets.
+const NO_PACKETS: Counts = Counts {
+    entered: 0,
+    left: 0,
+};
+
 /// One of the two points: packets enter at the first, and leave at the second.
 #[derive(Clone, Copy, Debug, PartialEq, Eq)]
 pub enum Side {
@@ -27,14 +34,20 @@ pub enum Side {
     Left,
 }
 
-/// The counts of each block in which a packet entered or left.
+/// The counts of each block in which a packet entered or left. Those of the block that was counted last stand beside the
+/// map, since the next packet mostly is of the same block.
 #[derive(Drop)]
 pub struct Table {
     counts: BTreeMap<u64, Counts>,
+    block: u64,
+    here: Counts,
 }
 
 impl Table {
-    ghost use Rattle.am_cli.specs.Tallies.{tally, other, IsCounted, rows_of, one_at};
+    ghost use Rattle.std.specs.Prelude.{◌+◌, None};
+    ghost use Rattle.std.specs.BTreeMap.{get};
+    ghost use Rattle.std.specs.Ordering.{nat_cmp};
+    ghost use Rattle.am_cli.specs.Tallies.{settled, tally, other, IsSettled, IsCounted, rows_of, one_at, count_of};
     ghost use Rattle.am_cli.specs.declared.table.Side.TheVariants.{Entered, Left};
 
     /// The table of no packets.
@@ -45,7 +58,16 @@ impl Table {
     {
         Table {
             counts: BTreeMap::new(alloc),
+            block: 0,
+            here: NO_PACKETS,
         }
+    }
+
+    /// The block that was counted last; 0 where there is none.
+    pub fn last(&self) -> u64
+        ensures { result ≡ self.now.block }
+    {
+        self.block
     }
 
     /// Counts one more packet of a block on one side.
@@ -53,37 +75,80 @@ impl Table {
         requires counted { IsCounted self.old }
         requires fits { tally self.old side block + 1 < 2 ^ 64 }
         ensures counted { OnOk result (IsCounted self.new) }
-        ensures here { OnOk result
-            ((b : ℕ) → tally self.new side b ≡ tally self.old side b + one_at block b) }
+        ensures here { OnOk result ((b : ℕ) → tally self.new side b ≡ tally self.old side b + one_at block b) }
         ensures there { OnOk result
             ((b : ℕ) → tally self.new (other side) b ≡ tally self.old (other side) b) }
     {
-        let before = match self.counts.get(&block) {
+        self.turn(block)?;
+        match side {
+            Side::Entered => self.here.entered += 1,
+            Side::Left => self.here.left += 1,
+        }
+        Ok(())
+    }
+
+    // Turns to a block: its counts stand beside the map.
+    fn turn(&mut self, block: u64) -> Result<(), AllocError>
+        requires { IsCounted self.old }
+        ensures counted { OnOk result (IsCounted self.new) }
+        ensures block { OnOk result (self.new.block ≡ block) }
+        ensures same { OnOk result ((side : Side) (b : ℕ) → tally self.new side b ≡ tally self.old side b) }
+    {
+        if self.block == block {
+            return Ok(());
+        }
+        self.change(block)
+    }
+
+    // Turns to another block.
+    #[cold]
+    #[inline(never)]
+    fn change(&mut self, block: u64) -> Result<(), AllocError>
+        requires { IsCounted self.old }
+        ensures counted { OnOk result (IsCounted self.new) }
+        ensures block { OnOk result (self.new.block ≡ block) }
+        ensures same { OnOk result ((side : Side) (b : ℕ) → tally self.new side b ≡ tally self.old side b) }
+    {
+        self.settle()?;
+        self.here = match self.counts.get(&block) {
             Some(counts) => *counts,
-            None => Counts {
-                entered: 0,
-                left: 0,
-            },
+            None => NO_PACKETS,
         };
-        let now = match side {
-            Side::Entered => Counts {
-                entered: before.entered + 1,
-                left: before.left,
-            },
-            Side::Left => Counts {
-                entered: before.entered,
-                left: before.left + 1,
-            },
-        };
-        self.counts.insert(block, now)?;
+        self.block = block;
+        Ok(())
+    }
+
+    // Writes the counts that stand beside the map into it.
+    fn settle(&mut self) -> Result<(), AllocError>
+        requires { IsCounted self.old }
+        ensures settled { OnOk result (IsSettled self.new) }
+        ensures same { OnOk result ((side : Side) (b : ℕ) → settled self.new side b ≡ tally self.old side b) }
+        ensures block { self.new.block ≡ self.old.block }
+        ensures here { self.new.here ≡ self.old.here }
+    {
+        if self.here.entered == 0 && self.here.left == 0 {
+            return Ok(());
+        }
+        self.counts.insert(self.block, self.here)?;
         Ok(())
     }
 
     /// The text of the table: a line with the columns' names, and then one for each block, ascending.
-    pub fn text(&self, alloc: Global) -> Result<String, AllocError>
-        requires { IsCounted self.now }
-        ensures table { IfOk result
-            (λ text. IsTable (tally self.now Entered) (tally self.now Left) (rows_of self.now)) }
+    pub fn text(&mut self, alloc: Global) -> Result<String, AllocError>
+        requires { IsCounted self.old }
+        ensures table { IfOk result (λ text. IsTable (tally self.old Entered) (tally self.old Left)
+            (rows_of self.new)) }
+        ensures text { IfOk result (λ text. string_bytes text ≡ table_text (rows_of self.new)) }
+    {
+        self.settle()?;
+        self.lines(alloc)
+    }
+
+    // The text of the table of the map.
+    fn lines(&self, alloc: Global) -> Result<String, AllocError>
+        requires { IsSettled self.now }
+        ensures table { IfOk result (λ text. IsTable (settled self.now Entered) (settled self.now Left)
+            (rows_of self.now)) }
         ensures text { IfOk result (λ text. string_bytes text ≡ table_text (rows_of self.now)) }
     {
         let room = self.counts.len().saturating_mul(LINE_SIZE);

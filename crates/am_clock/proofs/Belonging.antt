@@ -30,3 +30,10 @@ belongs-means t reading colour shift epoch n None timing at meant belongs =
 belongs-means t reading colour shift epoch n (Some m) timing at meant belongs =
     let near : (n % 2 ≡ parity colour) × (n ≤ epoch) × (epoch ≤ n + 1) = near_epoch t reading colour shift epoch n timing at belongs
     in grind arith
+
+-- a record belongs to one block at most, by the windows alone
+pub belongs-one :
+    (t : Times) (reading : ℕ) (colour : Bool) (shift m n : ℕ)
+    → IsTiming t → IsTrue (belongs_to t reading colour shift m) → IsTrue (belongs_to t reading colour shift n) → m ≡ n
+belongs-one t reading colour shift m n timing one other =
+    grind (arith, begins_by m (n + 1) t.block, begins_by n (m + 1) t.block, halves t timing)

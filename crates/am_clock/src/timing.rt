@@ -137,6 +137,45 @@ impl Timing {
         epoch_block(epoch, colour)
     }
 
+    /// The block that `attribute` answers, found faster where it is the likely one: where the record belongs to that
+    /// block nothing is divided.
+    pub fn attribute_near(&self, likely: u64, reading: u64, colour: bool, shift: u64) -> Option<u64>
+        requires { shift ≤ 2 ^ 40 }
+        ensures found { (n : ℕ) → IsTrue (belongs_to self.now reading colour shift n) → result ≡ Some n }
+        ensures belongs { IfSome result (λ n. IsTrue (belongs_to self.now reading colour shift n)) }
+        ensures none { IfNone result (reading + half self.now < parity colour * self.now.block + shift) }
+        ensures early { reading + half self.now < parity colour * self.now.block + shift → result ≡ None }
+    {
+        if self.belongs(likely, reading, colour, shift) {
+            return Some(likely);
+        }
+        self.attribute(reading, colour, shift)
+    }
+
+    // Whether a record with this reading and colour belongs to the block, found without a division. False too where the
+    // block begins behind every reading.
+    fn belongs(&self, number: u64, reading: u64, colour: bool, shift: u64) -> bool
+        requires { shift ≤ 2 ^ 40 }
+        ensures valid { IsTiming self.now }
+        ensures belongs { IsTrue result → IsTrue (belongs_to self.now reading colour shift number) }
+    {
+        let half = self.block / 2;
+        if colour_of(number) != colour {
+            return false;
+        }
+        let Some(begin) = number.checked_mul(self.block) else {
+            return false;
+        };
+        let Some(start) = begin.checked_add(shift) else {
+            return false;
+        };
+        if reading < start {
+            start - reading <= half
+        } else {
+            reading - start < self.block + half
+        }
+    }
+
     /// The blocks that a span of readings covers at a node of this shift: those whose windows have every
     /// reading in the span, from `from` and below `until` (windows as in RFC 9341, section 5). They are
     /// the blocks from the first number and below the second, so there are none where the first is not
@@ -282,6 +321,14 @@ mod tests {
                 wanted,
                 "at {reading}"
             );
+            // Whatever block is likely: the right one, others of either colour, and one behind every reading.
+            for likely in [0, 1, 2, 1_844_674_406, 1_844_674_407, u64::MAX] {
+                assert_eq!(rt;
+                    timing.attribute_near(likely, reading, colour, 0),
+                    wanted,
+                    "at {reading} near {likely}"
+                );
+            }
         }
     }
 

@@ -1,5 +1,7 @@
 pub mod TextLemmas
 pub mod ListLemmas
+pub mod NumberLemmas
+pub mod IndexLemmas
 pub mod EntryLemmas
 pub mod BlockLemmas
 pub mod RuleLemmas

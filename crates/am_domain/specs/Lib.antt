@@ -12,3 +12,5 @@ pub mod Rules
 pub mod Domains
 pub mod Lookups
 pub mod DomainTexts
+pub mod Numbers
+pub mod Index

@@ -15,11 +15,13 @@ use crate::blocks::shift_of;
 use crate::error::DomainError;
 use crate::fields::{Fields, read_fields};
 use crate::flow::Flow;
+use crate::index::{Index, first_holding, index_of};
 use crate::judge::{check_blocks, check_counts, check_ends, check_links, check_repeats};
 use crate::laws::domain_law;
 use crate::link::Edge;
 use crate::network::number_of;
 use crate::node::Node;
+use crate::numbers::{Numbered, numbers_of, place_of};
 use am_addr::Addr;
 use am_clock::Timing;
 use am_ip6::Place;
@@ -37,10 +39,15 @@ pub struct Domain {
     edges: Vec<Edge>,
     first: u64,
     end: u64,
+    // by which flows are found
+    numbers: Vec<Numbered>,
+    index: Index,
 }
 
 impl Model for Domain {
     ghost use Rattle.am_domain.specs.Domains.{DomainValue, IsLawful};
+    ghost use Rattle.am_domain.specs.Numbers.{AreNumbers};
+    ghost use Rattle.am_domain.specs.Index.{IsIndex};
 
     ghost Value = { DomainValue };
 
@@ -64,7 +71,7 @@ impl Model for Domain {
       links = d.edges.items;
       first = d.first;
       end = d.end;
-    }) };
+    }) × AreNumbers d.flows.items d.numbers.items × IsIndex d.flows.items d.index };
 }
 
 impl Domain {
@@ -159,8 +166,8 @@ impl Domain {
         ensures of { (i : ℕ) (d : FlowValue) → i < length self.now.flows
             → id ≡ (slice_index_or self.now.flows i d).id → result ≡ Some i }
     {
-        match first_with_id(self.flows.as_slice(), id) {
-            Some(i) => Some(i as u32),
+        match place_of(self.numbers.as_slice(), id) {
+            Some(i) => Some(i),
             None => None,
         }
     }
@@ -172,50 +179,11 @@ impl Domain {
         ensures none { IfNone result
             (NoneHas (Holds source.now.0 destination.now.0) self.now.flows) }
     {
-        match first_holding(self.flows.as_slice(), source, destination) {
-            Some(i) => Some(i as u32),
+        match first_holding(&self.index, self.flows.as_slice(), source, destination) {
+            Some(i) => Some(i),
             None => None,
         }
     }
-}
-
-// The first flow of this number.
-fn first_with_id(flows: &[Flow], id: u32) -> Option<usize>
-    ensures found { IfSome result (λ i. IsFirstWith (HasId id) flows.now i) }
-    ensures none { IfNone result (NoneHas (HasId id) flows.now) }
-{
-    for i in 0..flows.len() {
-        let flow = &flows[i];
-        if flow.id() == id {
-            return Some(i);
-        }
-    }
-    None
-}
-
-// The first flow both of whose prefixes hold the addresses.
-fn first_holding(flows: &[Flow], source: &Addr, destination: &Addr) -> Option<usize>
-    ensures found { IfSome result (λ i.
-        IsFirstWith (Holds source.now.0 destination.now.0) flows.now i) }
-    ensures none { IfNone result (NoneHas (Holds source.now.0 destination.now.0) flows.now) }
-{
-    for at in 0..flows.len() {
-        let flow = &flows[at];
-        if holds(flow, source, destination) {
-            return Some(at);
-        }
-    }
-    None
-}
-
-// Whether both prefixes of the flow hold the addresses.
-fn holds(flow: &Flow, source: &Addr, destination: &Addr) -> bool
-    ensures { IsTrue result ↔ Holds source.now.0 destination.now.0 flow.now }
-{
-    if !flow.source().holds(source) {
-        return false;
-    }
-    flow.destination().holds(destination)
 }
 
 // The domain that the parts of a file make, or the first rule that they break.
@@ -250,6 +218,12 @@ fn domain_of(alloc: Global, fields: Fields) -> Result<Domain, DomainError>
         Ok(blocks) => blocks,
         Err(error) => return Err(error),
     };
+    let Ok(numbers) = numbers_of(alloc, fields.flows.as_slice()) else {
+        return Err(DomainError::Memory);
+    };
+    let Ok(index) = index_of(alloc, fields.flows.as_slice()) else {
+        return Err(DomainError::Memory);
+    };
     let Fields {
         times: _,
         marking,
@@ -266,6 +240,8 @@ fn domain_of(alloc: Global, fields: Fields) -> Result<Domain, DomainError>
         edges,
         first,
         end,
+        numbers,
+        index,
     })
 }
 

@@ -14,6 +14,7 @@ mod entries;
 mod error;
 mod fields;
 mod flow;
+mod index;
 mod judge;
 mod keys;
 mod laws;
@@ -21,6 +22,7 @@ mod link;
 mod message;
 mod network;
 mod node;
+mod numbers;
 mod repeats;
 mod table;
 #[cfg(test)]

@@ -360,6 +360,45 @@ fn twelve_points(rt: HostRuntime) -> Result<(), Fail> {
     Ok(())
 }
 
+// The domain of two nodes with forty flows more, whose prefixes differ, then one that holds all addresses.
+fn forty_more(alloc: Global) -> Result<String, Fail> {
+    let mut text = String::from_str(alloc, TWO)?;
+    for k in 1..41u32 {
+        write!(text, "[[flow]]\nname = \"f{k}\"\nid = {}\n", 5000 - k * 7)?;
+        write!(text, "source = \"2001:db8:5:{k}::/64\"\n")?;
+        write!(text, "destination = \"2001:db8:6:{k}::/64\"\n")?;
+    }
+    write!(text, "[[flow]]\nname = \"all\"\nid = 0\n")?;
+    write!(text, "source = \"::/0\"\ndestination = \"::/0\"\n")?;
+    Ok(text)
+}
+
+#[test]
+fn flows_are_found_among_many(rt: HostRuntime) -> Result<(), Fail> {
+    let alloc = rt.alloc();
+    let text = forty_more(alloc)?;
+    let domain = read(alloc, text.as_str())?.expect(&rt, "a domain");
+    for (source, destination, flow) in [
+        ("2001:db8:5:1::7", "2001:db8:6:1::9", 1),
+        ("2001:db8:5:40::7", "2001:db8:6:40::9", 40),
+        // of two flows
+        ("2001:db8:5:40::7", "2001:db8:6:39::9", 41),
+        ("2001:db8:5:41::7", "2001:db8:6:41::9", 41),
+        ("2001:db8:1::1", "2001:db8:2::1", 0),
+    ] {
+        let source = parse(source).ok_or("an address")?;
+        let destination = parse(destination).ok_or("an address")?;
+        assert_eq!(rt; domain.flow_of(&source, &destination), Some(flow));
+    }
+    for (id, flow) in [(4993, 1), (4720, 40), (0, 41), (74_565, 0)] {
+        assert_eq!(rt; domain.flow_of_id(id), Some(flow));
+    }
+    for id in [1, 4719, 4721, 4994, 74_564, 74_566] {
+        assert_eq!(rt; domain.flow_of_id(id), None);
+    }
+    Ok(())
+}
+
 #[test]
 fn too_many_nodes(rt: HostRuntime) -> Result<(), Fail> {
     let alloc = rt.alloc();

@@ -11,6 +11,9 @@ pub mod Shelved
 pub mod SeekSteps
 pub mod ReadFiles
 pub mod Gives
+pub mod Fronts
+pub mod Chunked
+pub mod Passing
 pub mod HeadReading
 pub mod Framed
 pub mod OneFile

@@ -64,6 +64,20 @@ pub record Counts (old new : Decoded) : Type 0 where
   pub risen : IsSome new.waiting → new.summary.count ≡ old.summary.count + 1
   pub few : 16 * new.summary.count ≤ new.summary.taken
 
+-- it passed over the whole record that the piece begins with, which has n bytes behind its header, where nothing was
+-- unfinished: the record is counted, its bytes are taken, and nothing else changed
+pub record Passed (old new : Decoded) (big : Bool) (piece : List ℕ) (n : ℕ) : Type 0 where
+  pub whole : IsWhole big piece
+  pub behind : n ≡ word big piece 8
+  pub before : old.summary.unfinished ≡ []
+  pub after : new.summary.unfinished ≡ []
+  pub count : new.summary.count ≡ old.summary.count + 1
+  pub taken : new.summary.taken ≡ old.summary.taken + 16 + n
+  pub few : 16 * new.summary.count ≤ new.summary.taken
+  pub head : new.summary.head ≡ old.summary.head
+  pub error : new.summary.error ≡ old.summary.error
+  pub waiting : new.waiting ≡ old.waiting
+
 -- what waits, in a decoder whose buffer has these bytes
 abbrev pub waiting_packet : Option Head → List ℕ → Bool → Option Packet
 waiting_packet None buffer waiting = None

@@ -5,6 +5,7 @@ pub mod Heads
 pub mod Captures
 pub mod Decoded
 pub mod Lent
+pub mod LentBytes
 pub mod Chunks
 pub mod Readings
 pub mod CaptureFiles

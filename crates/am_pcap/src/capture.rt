@@ -118,6 +118,7 @@ impl Capture {
     ///
     /// `ReadFault`: the shelf failed. `TooLong`: more than 2^40 bytes were read. `Bad`: the bytes are no capture. No
     /// other error comes, and behind None or an error nothing may be asked.
+    #[inline(always)]
     pub fn next<S: Shelf>(&mut self, shelf: &mut S) -> Result<Option<Record<'_>>, FileError>
         requires { self.old.over ≡ false }
         ensures* leaves { sem 𝓛
@@ -138,6 +139,15 @@ impl Capture {
         ensures faults_stay { S.faults shelf.old ≤ S.faults shelf.new }
         ensures missed_stay { S.missed shelf.old ≤ S.missed shelf.new }
     {
+        // A record that is whole in what was read is lent in its place.
+        let big = self.head.form.big;
+        match self.decoder.pass(big, self.held.bytes()) {
+            Some(n) => {
+                let number = self.decoder.count();
+                return Ok(Some(self.held.lend(big, n, number)));
+            }
+            None => {}
+        }
         match seek(&mut self.decoder, &mut self.held, &mut self.read, shelf) {
             Ok(true) => Ok(self.decoder.take()),
             Ok(false) => {

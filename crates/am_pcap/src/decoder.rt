@@ -1,8 +1,8 @@
 //! A decoder of captures, which takes the bytes of a file in any pieces.
-ghost use Rattle.std.specs.Prelude.{◌≡◌, ◌+◌, ◌-◌, ◌*◌, ◌<◌, ◌≤◌, ◌^◌, ◌++◌, ℕ, List, [], length, take, min, Some, None, Ok, Err, IsSome, IsTrue, ◌↔◌, IfOk, IfErr, OnOk, OnSome, MatchOption, vec_len, vec_capacity, cond};
+ghost use Rattle.std.specs.Prelude.{◌≡◌, ◌+◌, ◌-◌, ◌*◌, ◌<◌, ◌≤◌, ◌^◌, ◌++◌, ℕ, List, [], length, take, min, Some, None, Ok, Err, IsSome, IsTrue, ◌↔◌, IfOk, IfErr, IfSome, IfNone, OnOk, OnSome, MatchOption, vec_len, vec_capacity, cond};
 ghost use Rattle.std.specs.Borrow.{sem};
 ghost use Rattle.am_pcap.specs.Captures.{verdict, IsVerdict};
-ghost use Rattle.am_pcap.specs.Decoded.{Decoded, nothing_taken, after_take, CanTake, Took, Refused, Counts, Goes, StandsFor, header_length};
+ghost use Rattle.am_pcap.specs.Decoded.{Decoded, nothing_taken, after_take, CanTake, Took, Refused, Passed, Counts, Goes, StandsFor, header_length};
 ghost use Rattle.am_pcap.specs.Packets.{word, IsWhole, first_packet};
 ghost use Rattle.am_pcap.specs.Shown.{packet_shown};
 ghost use Rattle.am_pcap.specs.declared.refusal.CapError.{CapError};
@@ -20,7 +20,7 @@ mod tests;
 /// what a decoder has room for.
 const FILE_HEAD: usize = 24;
 
-const RECORD_HEAD: usize = 16;
+pub const RECORD_HEAD: usize = 16;
 
 const MOST_CAPTURED: u32 = 262_144;
 
@@ -193,6 +193,31 @@ impl Decoder {
         Ok(n + m)
     }
 
+    // Passes over the record that the piece begins with, where nothing is unfinished and it is whole: how many bytes it
+    // has behind its header. It is counted and its bytes are taken, and nothing of it is kept. None: nothing changed.
+    pub(crate) fn pass(&mut self, big: bool, piece: &[u8]) -> Option<usize>
+        requires { CanTake self.old piece.now }
+        ensures passed { IfSome result (Passed self.old self.new big piece.now) }
+        ensures unchanged { IfNone result (self.new ≡ self.old) }
+    {
+        if !self.full && !self.buffer.is_empty() {
+            return None;
+        }
+        let Some(n) = whole_front(big, piece) else {
+            return None;
+        };
+        self.count += 1;
+        self.taken += (RECORD_HEAD + n) as u64;
+        Some(n)
+    }
+
+    // How many whole records there were.
+    pub(crate) fn count(&self) -> u64
+        ensures { result ≡ self.now.summary.count }
+    {
+        self.count
+    }
+
     // Whether a record waits.
     pub(crate) fn is_waiting(&self) -> bool
         ensures { IsTrue result ↔ IsSome self.now.waiting }
@@ -290,8 +315,26 @@ fn front(bytes: &[u8]) -> [u8; 24]
     raw
 }
 
-// The record that the bytes are.
-fn record_in(bytes: &[u8], big: bool, number: u64) -> Record<'_>
+// How many bytes the record that the piece begins with has behind its header, where it is whole.
+fn whole_front(big: bool, piece: &[u8]) -> Option<usize>
+    ensures { IfSome result (λ n. IsWhole big piece.now × (n ≡ word big piece.now 8)) }
+{
+    if piece.len() < RECORD_HEAD {
+        return None;
+    }
+    let captured = word_at(big, piece, 8);
+    if captured > MOST_CAPTURED {
+        return None;
+    }
+    let n = captured as usize;
+    if piece.len() - RECORD_HEAD < n {
+        return None;
+    }
+    Some(n)
+}
+
+/// The record that the bytes are.
+pub fn record_in(bytes: &[u8], big: bool, number: u64) -> Record<'_>
     requires whole { IsWhole big bytes.now }
     requires ends { length bytes.now ≡ 16 + word big bytes.now 8 }
     ensures packet { packet_shown result ≡ first_packet big bytes.now }

@@ -1,8 +1,13 @@
 //! Bytes of a file that were read and that nobody took yet.
-ghost use Rattle.std.specs.Prelude.{◌≡◌, ◌≤◌, ◌<◌, ◌↔◌, ℕ, List, [], length, take, drop, vec_len, IfOk, OnOk, OnErr, IsTrue};
+ghost use Rattle.std.specs.Prelude.{◌≡◌, ◌+◌, ◌≤◌, ◌<◌, ◌↔◌, ℕ, List, [], length, take, drop, vec_len, IfOk, OnOk, OnErr, IsTrue};
+ghost use Rattle.std.specs.Borrow.{sem};
 ghost use Rattle.am_base.specs.Counts.{Rose};
 ghost use Rattle.am_base.specs.Shelves.{Takes, IsAtEnd};
+ghost use Rattle.am_pcap.specs.Packets.{word, IsWhole, first_packet};
+ghost use Rattle.am_pcap.specs.Shown.{packet_shown};
 
+use crate::decoder::{RECORD_HEAD, record_in};
+use crate::record::Record;
 use am_base::{Fault, Shelf};
 use std::alloc::{AllocError, Global};
 use std::marker::Model;
@@ -30,6 +35,8 @@ impl Model for Held {
 }
 
 impl Held {
+    ghost use Rattle.am_pcap.specs.LentBytes.{LeavesBytes};
+
     /// No bytes, with room for one read.
     pub fn new(alloc: Global) -> Result<Held, AllocError>
         ensures { IfOk result (λ h. h ≡ []) }
@@ -63,6 +70,19 @@ impl Held {
         ensures { self.new ≡ drop n self.old }
     {
         self.from += n;
+    }
+
+    /// Lends the record that the bytes begin with, in its place, and takes its bytes from the front.
+    pub fn lend(&mut self, big: bool, n: usize, number: u64) -> Record<'_>
+        requires whole { IsWhole big self.old }
+        requires behind { n ≡ word big self.old 8 }
+        ensures* leaves { sem 𝓛 (LeavesBytes self.entry (drop (16 + n) self.old)) }
+        ensures packet { packet_shown result ≡ first_packet big self.old }
+        ensures number { result.number ≡ number }
+    {
+        let from = self.from;
+        self.from += RECORD_HEAD + n;
+        record_in(&self.chunk[from..self.from], big, number)
     }
 
     /// Reads the next bytes of the shelf's open file in the place of what was there. No bytes: the file is at its end.

@@ -4,7 +4,7 @@
 //! in one of three ways. `Decoder` takes the bytes of a file in any pieces, and gives its records one by one; all its
 //! memory is taken when it is made, and a record's bytes are copied once. `file_head` and `record_head` write what it
 //! reads. `packet_of` tells where the IPv6 packet begins in a record's bytes. `Capture` reads a file of a shelf in pieces,
-//! and gives its records one by one.
+//! and gives its records one by one: a record that is whole in one piece is lent in its place, with no copy.
 #![tactic(auto)]
 
 mod capture;

@@ -42,8 +42,13 @@ pub fn file_of(alloc: Global) -> Result<Vec<u8>, AllocError> {
 
 /// What is seen of its records: number, seconds, fraction, original length, and the bytes.
 pub fn seen_of(alloc: Global) -> Result<Vec<u8>, AllocError> {
+    seen_behind(alloc, 0)
+}
+
+/// The same where this many records stand before them.
+pub fn seen_behind(alloc: Global, before: u8) -> Result<Vec<u8>, AllocError> {
     let mut seen = Vec::new(alloc);
-    let mut number: u8 = 0;
+    let mut number = before;
     for (seconds, mark) in ROWS {
         number = number.saturating_add(1);
         seen.extend_from_slice(&[number, 0, 0, 0, 0, 0, 0, 0])?;

@@ -112,6 +112,8 @@ fn feed_head(decoder: &mut Decoder, held: &mut Held, missing: usize) -> Result<(
 }
 
 /// Reads on until a record waits: true. False: the file is at its end, and is a whole capture.
+#[cold]
+#[inline(never)]
 pub fn seek<S: Shelf>(
     decoder: &mut Decoder,
     held: &mut Held,

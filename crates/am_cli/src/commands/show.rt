@@ -7,13 +7,13 @@ ghost use Rattle.am_ip6.specs.Seen.{seen_shown};
 ghost use Rattle.am_pcap.specs.Shown.{packet_shown};
 ghost use Rattle.am_cli.specs.Chains.{inputs, output, Performs};
 ghost use Rattle.am_cli.specs.Lines.{IsLine, header_text, ending_text, seen_text};
-ghost use Rattle.am_cli.specs.Showing.{AddsFrame, AddsPacket};
+ghost use Rattle.am_cli.specs.Showing.{AddsFrame, AddsPacket, Flushes};
 ghost use Rattle.am_cli.specs.commands.Show.{Show, SaysShowWords, show_chain};
 ghost use Rattle.am_cli.specs.Shown.{show_shown, answer_of};
 
 use crate::answer::Stop;
 use crate::words::is_file_name;
-use am_base::{Shelf, Sink, put};
+use am_base::{Buffer, Shelf, Sink};
 use am_ip6::{Ending, Found, Place, Walk, find_mark, walk_ending};
 use am_pcap::{Capture, Frame, Head, LinkKind, Record, packet_of};
 use std::alloc::{AllocError, Global};
@@ -48,7 +48,8 @@ fn file_word(file: &str) -> Option<ShowWords<'_>>
     Some(ShowWords { file })
 }
 
-/// Reads the capture record by record, and prints the line of each before it looks at the next.
+/// Reads the capture record by record. The line of each goes into a buffer before the next record is looked at, and all
+/// that the buffer holds is written before any answer.
 pub fn show<S: Shelf, O: Sink>(
     alloc: Global,
     words: &ShowWords<'_>,
@@ -67,20 +68,37 @@ pub fn show<S: Shelf, O: Sink>(
         Err(error) => return Err(Stop::of_capture(alloc, name, error)),
     };
     let head = capture.head();
+    let Ok(mut buffer) = Buffer::new(alloc) else {
+        return Err(Stop::NoMemory);
+    };
     let mut line = String::new(alloc);
     'records: loop {
         let record = match capture.next(shelf) {
             Ok(Some(record)) => record,
-            Ok(None) => return Ok(()),
-            Err(error) => return Err(Stop::of_capture(alloc, name, error)),
+            Ok(None) => return flushed(&mut buffer, out, Ok(())),
+            Err(error) => {
+                let stop = Stop::of_capture(alloc, name, error);
+                return flushed(&mut buffer, out, Err(stop));
+            }
         };
         let Ok(()) = show_line(&mut line, &record, &head) else {
-            return Err(Stop::NoMemory);
+            return flushed(&mut buffer, out, Err(Stop::NoMemory));
         };
-        let Ok(()) = put(out, line.as_bytes()) else {
+        let Ok(()) = buffer.write(out, line.as_bytes()) else {
             return Err(Stop::WriteFault);
         };
     }
+}
+
+// This answer, once all that is held was written; a fault of the output comes first.
+fn flushed<O: Sink>(buffer: &mut Buffer, out: &mut O, answer: Result<(), Stop>) -> Result<(), Stop>
+    ensures { Flushes (output (O.written out.old) (O.faults out.old)) buffer.old
+        (output (O.written out.new) (O.faults out.new)) (answer_of answer) (answer_of result) }
+{
+    let Ok(()) = buffer.flush(out) else {
+        return Err(Stop::WriteFault);
+    };
+    answer
 }
 
 // The line of a record, in the place of what the text was.

@@ -114,7 +114,8 @@ fn shows_a_routed_packet(rt: HostRuntime) -> Result<(), Fail> {
     Ok(())
 }
 
-// The capture is cut to a length. Each line is one write; the first read takes all bytes, and the second finds the end.
+// The capture is cut to a length. All lines are one write, before any answer; the first read takes all bytes, and the second
+// finds the end.
 #[test]
 fn shows_up_to_a_fault(rt: HostRuntime) -> Result<(), Fail> {
     let alloc = rt.alloc();
@@ -123,15 +124,14 @@ fn shows_up_to_a_fault(rt: HostRuntime) -> Result<(), Fail> {
     let third = "altmark: u.pcap: file ends in record 3\n";
     let all = lines_of(alloc, 6)?;
     let two = lines_of(alloc, 2)?;
-    let [one, ..] = LINES;
     let rows: [(usize, Faults, Wanted<'_>); 8] = [
         (24, NONE, (0, "", "")),
         (408, NONE, (0, &all, "")),
         (408, open(1), (5, "", input)),
         (408, read(2), (5, &all, input)),
         (162, read(2), (5, &two, input)),
-        (162, write(2), (6, one, output)),
-        (162, write(3), (3, &two, third)),
+        (162, write(1), (6, "", output)),
+        (162, write(2), (3, &two, third)),
         (408, room(60), (6, FRONT, output)),
     ];
     let up = capture(alloc, &UP)?;

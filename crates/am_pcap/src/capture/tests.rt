@@ -5,7 +5,7 @@ use super::*;
 use crate::frame::LinkKind;
 use crate::head::record_head;
 use crate::record::Form;
-use crate::samples::{HEAD, add_record, file_of, seen_of};
+use crate::samples::{HEAD, add_record, file_of, seen_behind, seen_of};
 use am_base::{Fault, MemShelf};
 use std::alloc::AllocError;
 use std::test::Fail;
@@ -246,6 +246,34 @@ fn reads_a_few_bytes_at_a_time(rt: HostRuntime) -> Result<(), Fail> {
         let mut log = empty_log(alloc);
         assert_eq!(rt; read_all(alloc, &mut shelf, "u.pcap", &mut log), Ok(true));
         assert_eq!(rt; log.seen.as_slice(), want.as_slice(), "{most}");
+    }
+    Ok(())
+}
+
+// The file of six records, with a record of this many captured bytes before them.
+fn file_behind(alloc: Global, captured: u16) -> Result<Vec<u8>, AllocError> {
+    let mut file = Vec::new(alloc);
+    file.extend_from_slice(&HEAD)?;
+    file.extend_from_slice(&record_head(FORM, 1, 0, u32::from(captured), u32::from(captured)))?;
+    file.resize(40 + usize::from(captured), 0)?;
+    let six = file_of(alloc)?;
+    file.extend_from_slice(six.get(24..).unwrap_or(&[]))?;
+    Ok(file)
+}
+
+// The second record begins so many bytes before the end of the first read: in its header, at its end, and behind it.
+#[test]
+fn records_cut_by_a_read_are_the_same(rt: HostRuntime) -> Result<(), Fail> {
+    let alloc = rt.alloc();
+    let want = seen_behind(alloc, 1)?;
+    for before in [1, 8, 15, 16, 17, 40, 63, 64, 65] {
+        let captured: u16 = 65_496 - before;
+        let file = file_behind(alloc, captured)?;
+        let mut shelf = shelf_of(alloc, &file, &[], &[])?;
+        let mut log = empty_log(alloc);
+        assert_eq!(rt; read_all(alloc, &mut shelf, "u.pcap", &mut log), Ok(true));
+        let behind = log.seen.get(20 + usize::from(captured)..).ok_or("short")?;
+        assert_eq!(rt; behind, want.as_slice(), "{before}");
     }
     Ok(())
 }

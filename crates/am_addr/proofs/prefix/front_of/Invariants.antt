@@ -5,4 +5,4 @@ use Rattle.am_addr.proofs.prefix.front_of.Given as goal
 abbrev pub invariant-loop-byte : goal.invariant-loop-byte
 invariant-loop-byte l =
     (drop l.byte-index l.byte-items ≡ drop l.byte-index l.initial.byte-items)
-    × (take l.byte-index l.byte-items ++ cleared l.left (drop l.byte-index l.initial.byte-items) ≡ cleared l.initial.left l.initial.byte-items)
+    × (take l.byte-index l.byte-items ++ cleared l.rest (drop l.byte-index l.initial.byte-items) ≡ cleared l.initial.rest l.initial.byte-items)

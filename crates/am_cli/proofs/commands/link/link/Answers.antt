@@ -13,7 +13,7 @@ returns-in-Ok-put g c =
     let down = c.in-Ok-count_file.ensures.takes in
     let l = link_shown c.args.words.now in
     let table = link-table l up.0 down.0 (tally c.count_file.new.table Entered) (tally c.count_file-2.new.table Entered) (tally c.count_file-2.new.table Left)
-    (rows_of c.count_file-2.new.table) c.as_bytes.result.now c.delay_min.result c.delay_min.ensures.value up.3 c.in-Ok-count_file.ensures.other down.3
+    (rows_of c.text.new.self) c.as_bytes.result.now c.delay_min.result c.delay_min.ensures.value up.3 c.in-Ok-count_file.ensures.other down.3
     c.in-Ok-text.ensures.table (c.as_bytes.ensures.value ∙ c.in-Ok-text.ensures.text) in
     inr (
       up.0,
@@ -35,7 +35,7 @@ returns g c =
     let down = c.in-Ok-count_file.ensures.takes in
     let l = link_shown c.args.words.now in
     let table = link-table l up.0 down.0 (tally c.count_file.new.table Entered) (tally c.count_file-2.new.table Entered) (tally c.count_file-2.new.table Left)
-    (rows_of c.count_file-2.new.table) c.as_bytes.result.now c.delay_min.result c.delay_min.ensures.value up.3 c.in-Ok-count_file.ensures.other down.3
+    (rows_of c.text.new.self) c.as_bytes.result.now c.delay_min.result c.delay_min.ensures.value up.3 c.in-Ok-count_file.ensures.other down.3
     c.in-Ok-text.ensures.table (c.as_bytes.ensures.value ∙ c.in-Ok-text.ensures.text) in
     inr (
       up.0,

@@ -1,11 +1,38 @@
-use Rattle.std.proofs.Common.{refl}
+use Rattle.std.proofs.Common.{arith, refl, subst, ◌∙◌}
+use Rattle.am_pcap.specs.Answers.{GivesEnd, GivesError}
+use Rattle.am_pcap.specs.Decoded.{Passed}
+use Rattle.am_pcap.specs.Seeking.{Found, reading_of}
 use Rattle.am_pcap.proofs.Gives.{gave}
+use Rattle.am_pcap.proofs.Passing.{gave-passed}
 use Rattle.am_pcap.proofs.ReadFiles.{ends-so, stops-at}
 use Rattle.am_pcap.proofs.capture.Capture.next.Goals as goal
 
+pub returns-in-Some : goal.returns-in-Some
+returns-in-Some g c =
+    let passed = subst (λ x. Passed c.self.inside.decoder c.pass.new.self c.self.inside.head.form.big x c.in-Some.n) c.bytes.ensures c.in-Some.ensures.passed in
+    let all = gave-passed c.args.self.now c.self.inside.decoder c.self.inside.held c.self.inside.head c.self.inside.read c.self.inside.over c.pass.new.self
+    c.lend.follows.lender-at-none c.in-Some.n (g.S.Shelf.told c.args.shelf.now) c.lend.result
+    c.self.view_is c.requires c.self.invariant passed c.lend.follows.holds-at-none c.lend.ensures.packet
+    (c.lend.ensures.number ∙ c.count-number.ensures) in (
+      (refl, (λ _. tt), all.given),
+      record {
+        leaves = tt;
+        number = all.number;
+        few = all.few;
+        ended = tt;
+        at_end = tt;
+        refused = tt;
+        error = tt;
+        read_fault = λ e. absurd (cc (e));
+        faults_stay = omega arith;
+        missed_stay = omega arith;
+      },
+    )
+
 pub returns-in-Ok-true : goal.returns-in-Ok-true
 returns-in-Ok-true g c =
-    let found = rw c.in-Ok-true.field-0-test at c.in-Ok-true.ensures.sought in
+    let found = subst (λ x. Found x c.self.inside.held c.self.inside.read c.seek.new.decoder c.seek.new.held c.seek.new.read
+    (g.S.Shelf.told c.args.shelf.now) (g.S.Shelf.told c.seek.new.shelf)) c.in-None.ensures.unchanged (rw c.in-Ok-true.field-0-test at c.in-Ok-true.ensures.sought) in
     let all = gave c.args.self.now c.self.inside.decoder c.self.inside.held c.self.inside.read c.self.inside.over c.seek.new.decoder c.seek.new.held c.seek.new.read
     (g.S.Shelf.told c.args.shelf.now) (g.S.Shelf.told c.seek.new.shelf) c.take.follows.lender-at-none c.take.result
     c.self.view_is c.requires found c.take.follows.holds-at-none c.take.ensures.record in (
@@ -26,8 +53,10 @@ returns-in-Ok-true g c =
 
 pub returns-in-Ok-false : goal.returns-in-Ok-false
 returns-in-Ok-false g c =
+    let end = subst (λ x. GivesEnd (reading_of x c.self.inside.held c.self.inside.read) (g.S.Shelf.told c.args.shelf.now) (g.S.Shelf.told c.seek.new.shelf))
+    c.in-None.ensures.unchanged (rw c.in-Ok-false.field-0-test at c.in-Ok-false.ensures.sought) in
     let ends = ends-so c.self.inside.decoder c.self.inside.held c.self.inside.read c.self.inside.over c.args.self.now
-    (g.S.Shelf.told c.args.shelf.now) (g.S.Shelf.told c.seek.new.shelf) c.self.view_is c.requires (rw c.in-Ok-false.field-0-test at c.in-Ok-false.ensures.sought) in (
+    (g.S.Shelf.told c.args.shelf.now) (g.S.Shelf.told c.seek.new.shelf) c.self.view_is c.requires end in (
       (refl, (λ _. tt), tt),
       record {
         leaves = tt;
@@ -45,8 +74,10 @@ returns-in-Ok-false g c =
 
 pub returns-in-Err : goal.returns-in-Err
 returns-in-Err g c =
+    let error = subst (λ x. GivesError (reading_of x c.self.inside.held c.self.inside.read) (g.S.Shelf.told c.args.shelf.now) (g.S.Shelf.told c.seek.new.shelf) c.in-Err.error)
+    c.in-None.ensures.unchanged c.in-Err.ensures.refused in
     let stops = stops-at c.self.inside.decoder c.self.inside.held c.self.inside.read c.self.inside.over c.args.self.now
-    (g.S.Shelf.told c.args.shelf.now) (g.S.Shelf.told c.seek.new.shelf) c.in-Err.error c.self.view_is c.requires c.in-Err.ensures.refused in (
+    (g.S.Shelf.told c.args.shelf.now) (g.S.Shelf.told c.seek.new.shelf) c.in-Err.error c.self.view_is c.requires error in (
       (refl, (λ _. tt), tt),
       record {
         leaves = tt;

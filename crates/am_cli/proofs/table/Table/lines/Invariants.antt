@@ -2,7 +2,7 @@ use Rattle.std.proofs.Common.{◌≡◌, ◌++◌, map, string_bytes}
 use Rattle.std.specs.Prelude.{flat_map}
 use Rattle.am_cli.specs.Tables.{row_line, table_text}
 use Rattle.am_cli.specs.Tallies.{row_of, rows_of}
-use Rattle.am_cli.proofs.table.Table.text.Given as goal
+use Rattle.am_cli.proofs.table.Table.lines.Given as goal
 
 -- the text so far, and the lines of the blocks that are left, are the text of the table
 abbrev pub invariant-loop-block : goal.invariant-loop-block

@@ -1,6 +1,6 @@
 use Rattle.am_domain.specs.Lists.{AllBelow}
 use Rattle.am_domain.specs.Lookups.{Holds}
-use Rattle.am_domain.proofs.domain.first_holding.Given as goal
+use Rattle.am_domain.proofs.index.look_at_each.Given as goal
 
 -- none of the flows so far holds the addresses
 abbrev pub invariant-loop-at : goal.invariant-loop-at

@@ -1,0 +1,73 @@
+//! Masks: how many of an address's first bits count, made ready to clear the others of many addresses.
+
+ghost use Rattle.std.specs.Prelude.{◌≡◌, ℕ, nat_eq};
+ghost use Rattle.std.specs.Cmp;
+ghost use Rattle.std.specs.Cmp.{nat_eq_equiv};
+ghost use Rattle.am_addr.specs.Bits.{cleared, ones};
+
+use crate::address::Addr;
+use crate::prefix::front_of;
+use std::marker::Model;
+
+/// How many of an address's first bits count. An address has 128.
+#[derive(Clone, Copy, Debug)]
+pub struct Mask {
+    count: u8,
+    // the bits that count are 1, and the others 0
+    bits: [u8; 16],
+}
+
+impl Model for Mask {
+    ghost use Rattle.std.specs.Prelude.{◌≡◌, ℕ};
+    ghost use Rattle.am_addr.specs.Bits.{ones};
+
+    ghost Value = { ℕ };
+
+    ghost view = { λ m. m.count };
+
+    ghost invariant = { λ m. m.bits ≡ ones m.count };
+
+    ghost inverse = { λ n. record { count = n; bits = ones n } };
+}
+
+impl PartialEq for Mask {
+    ghost eq = { nat_eq };
+
+    ghost laws = { Cmp.partial_equiv_from_equiv nat_eq_equiv };
+
+    fn eq(&self, other: &Mask) -> bool {
+        self.count == other.count
+    }
+}
+
+impl Eq for Mask {
+    ghost laws = { nat_eq_equiv };
+}
+
+impl Mask {
+    /// The mask of so many first bits.
+    pub fn new(count: u8) -> Mask
+        ensures { result ≡ count }
+    {
+        let Addr(bits) = front_of(&Addr([255; 16]), count);
+        Mask { count, bits }
+    }
+
+    /// The address with each bit that doesn't count set to 0.
+    pub fn clear(&self, addr: &Addr) -> Addr
+        ensures { result.0 ≡ cleared self.now addr.now.0 }
+    {
+        Addr(both(&addr.0, &self.bits))
+    }
+}
+
+// The bits that both have: where the one has ones at the front, the first bits of the other.
+fn both(bytes: &[u8; 16], bits: &[u8; 16]) -> [u8; 16]
+    ensures { (count : ℕ) → bits.now ≡ ones count → result ≡ cleared count bytes.now }
+{
+    let mut kept = [0; 16];
+    for i in 0..16 {
+        kept[i] = bytes[i] & bits[i];
+    }
+    kept
+}
