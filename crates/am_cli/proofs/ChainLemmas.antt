@@ -10,10 +10,9 @@ use Rattle.am_base.specs.Sinks.{AppendsFront}
 use Rattle.am_base.specs.Files.{OnFile, KeepsFiles}
 use Rattle.am_pcap.specs.declared.refusal.CapError.{CapError}
 use Rattle.am_cli.specs.Answers.{Reason, Ending, Answer}
-use Rattle.am_cli.specs.Answers.Reason.{TooLong, BadCapture, HeadersCut, BadDomain}
 use Rattle.am_cli.specs.Answers.Ending.{Done, Missing, Refused}
 use Rattle.am_cli.specs.Answers.Answer.{Ended, NoCommand, ReadFault, WriteFault, NoMemory}
-use Rattle.am_cli.specs.Chains.{Inputs, Output, Stream, Chain, Judged, EndsHere, Ends, Follows, StopsHere, Performs, IsTextOfFirst, IsTextBeforeBad, IsTextBeforeRefused, IsTextOfSome, StreamRefuses, StreamEnds, StreamsSo, PrintsAll, PrintsFront, PrintsWhole, PrintsPieces}
+use Rattle.am_cli.specs.Chains.{Inputs, Output, Stream, Chain, Judged, EndsHere, Ends, Follows, StopsHere, Performs, IsTextOfFirst, IsTextBeforeBad, IsTextAtBad, IsTextBeforeRefused, IsTextOfSome, StreamRefuses, StreamEnds, StreamsSo, PrintsAll, PrintsFront, PrintsWhole, PrintsPieces}
 use Rattle.am_cli.specs.Runs.{NamesFile}
 use Rattle.am_cli.specs.Chains.Chain.{Reads, Refuses, Prints, Writes, Streams}
 
@@ -58,20 +57,26 @@ before-refused-kept before after name stream reason text kept h = record {
   printed = h.printed;
 }
 
-refuses-kept :
-    (before after : Option Told) (name : List ℕ) (stream : Stream) (reason : Reason) (text : List ℕ)
-    → KeepsFiles before after → StreamRefuses after name stream reason text → StreamRefuses before name stream reason text
-refuses-kept before after name stream TooLong text kept h =
-    (on-file-kept before after name _ kept h.0, first-kept before after name stream text kept h.1)
-refuses-kept before after name stream (BadCapture error) text kept h =
+at-bad-kept :
+    (before after : Option Told) (name : List ℕ) (stream : Stream) (error : CapError) (text : List ℕ)
+    → KeepsFiles before after → IsTextAtBad after name stream error text → IsTextAtBad before name stream error text
+at-bad-kept before after name stream error text kept h =
     elim h [
       | inl x ↦ inl (on-file-kept before after name _ kept x.0, x.1)
       | inr x ↦ inr (record { head = x.head; packets = x.packets; refused = on-file-kept before after name _ kept x.refused; printed = x.printed })
     ]
-refuses-kept before after name stream (HeadersCut number) text kept h =
-    before-refused-kept before after name stream (HeadersCut number) text kept h
-refuses-kept before after name stream (BadDomain error) text kept h =
-    before-refused-kept before after name stream (BadDomain error) text kept h
+
+refuses-kept :
+    (before after : Option Told) (name : List ℕ) (stream : Stream) (reason : Reason) (text : List ℕ)
+    → KeepsFiles before after → StreamRefuses after name stream reason text → StreamRefuses before name stream reason text
+refuses-kept before after name stream reason text kept h =
+    elim h [
+      | inl x ↦ inl (x.0, on-file-kept before after name _ kept x.1, first-kept before after name stream text kept x.2)
+      | inr y ↦ elim y [
+        | inl x ↦ inr (inl (x.0, x.1, at-bad-kept before after name stream x.0 text kept x.2))
+        | inr x ↦ inr (inr (before-refused-kept before after name stream reason text kept x))
+      ]
+    ]
 
 stream-ends-kept :
     (before after : Option Told) (name : List ℕ) (stream : Stream) (e : Ending) (text : List ℕ)
@@ -202,13 +207,14 @@ behind-begins (Some t) name stream error text h =
 refusal-front :
     (told : Option Told) (name : List ℕ) (stream : Stream) (reason : Reason) (text : List ℕ) → StreamRefuses told name stream reason text
     → IsTextOfSome told name stream text
-refusal-front told name stream TooLong text h = inr (inl h.1)
-refusal-front told name stream (BadCapture error) text h =
-    elim h [ inl x ↦ inl x.1 | inr x ↦ inr (inl (behind-begins told name stream error text x)) ]
-refusal-front told name stream (HeadersCut number) text h =
-    inr (inl (record { head = h.head; packets = h.packets; begins = h.begins; printed = h.printed }))
-refusal-front told name stream (BadDomain error) text h =
-    inr (inl (record { head = h.head; packets = h.packets; begins = h.begins; printed = h.printed }))
+refusal-front told name stream reason text h =
+    elim h [
+      | inl x ↦ inr (inl x.2)
+      | inr y ↦ elim y [
+        | inl x ↦ elim x.2 [ inl z ↦ inl z.1 | inr z ↦ inr (inl (behind-begins told name stream x.0 text z)) ]
+        | inr x ↦ inr (inl (record { head = x.head; packets = x.packets; begins = x.begins; printed = x.printed }))
+      ]
+    ]
 
 stream-forgets :
     (before after : Inputs) (old new : Output) (name : List ℕ) (stream : Stream) (answer : Answer) → NamesFile answer

@@ -5,10 +5,10 @@ use Rattle.am_base.specs.Shelves.{Told, IsAbsent}
 use Rattle.am_base.specs.Files.{OnFile}
 use Rattle.am_pcap.specs.Packets.{Packet}
 use Rattle.am_pcap.specs.declared.head.Head.{Head}
+use Rattle.am_pcap.specs.declared.refusal.CapError.{CapError}
 use Rattle.am_cli.specs.Answers.{Reason, Ending, ending_status}
-use Rattle.am_cli.specs.Answers.Reason.{TooLong, BadCapture, HeadersCut, BadDomain}
 use Rattle.am_cli.specs.Answers.Ending.{Done, Missing, Refused}
-use Rattle.am_cli.specs.Chains.{Stream, Chain, Judged, EndsHere, Ends, StreamRefuses, StreamEnds, IsTextOfAll, IsTextBeforeRefused}
+use Rattle.am_cli.specs.Chains.{Stream, Chain, Judged, EndsHere, Ends, StreamRefuses, StreamEnds, IsTextOfAll, IsTextAtBad, IsTextBeforeRefused}
 use Rattle.am_cli.specs.Chains.Chain.{Reads, Refuses, Prints, Writes, Streams}
 use Rattle.am_cli.specs.Laws.{Excludes, CaptureExcludes}
 
@@ -75,11 +75,14 @@ same-refuses t a b r s = record { same = λ e f p q. ap ending_status p ∙ sym 
 refused-there :
     (t : Told) (name : List ℕ) (stream : Stream) (reason : Reason) (text : List ℕ) → StreamRefuses (Some t) name stream reason text
     → IsAbsent (Some t) name → ⊥
-refused-there t name stream TooLong text h absent = not-there t name _ absent h.0
-refused-there t name stream (BadCapture error) text h absent =
-    elim h [ inl x ↦ not-there t name _ absent x.0 | inr x ↦ not-there t name _ absent x.refused ]
-refused-there t name stream (HeadersCut number) text h absent = not-there t name _ absent h.begins
-refused-there t name stream (BadDomain error) text h absent = not-there t name _ absent h.begins
+refused-there t name stream reason text h absent =
+    elim h [
+      | inl x ↦ not-there t name _ absent x.1
+      | inr y ↦ elim y [
+        | inl x ↦ elim x.2 [ inl z ↦ not-there t name _ absent z.0 | inr z ↦ not-there t name _ absent z.refused ]
+        | inr x ↦ not-there t name _ absent x.begins
+      ]
+    ]
 
 not-refused :
     (t : Told) (name : List ℕ) (stream : Stream) (reason : Reason) (text all : List ℕ) → CaptureExcludes → StreamExcludes stream
@@ -92,20 +95,28 @@ not-refused t name stream reason text all law x h whole =
     (subst (λ k. stream.all_of k ((h.packets ++ h.packet ∷ []) ++ front.more) all) (sym front.head)
     (subst (λ qs. stream.all_of whole.head qs all) front.packets whole.printed)))
 
--- a whole capture isn't refused
-whole-not-refused :
-    (t : Told) (name : List ℕ) (stream : Stream) (reason : Reason) (text all : List ℕ) → CaptureExcludes → StreamExcludes stream
-    → StreamRefuses (Some t) name stream reason text → IsTextOfAll (Some t) name stream all → ⊥
-whole-not-refused t name stream TooLong text all law x h whole =
-    both-on-file t name _ _ h.0 whole.whole (λ bytes long capture. omega (arith, long, capture.short))
-whole-not-refused t name stream (BadCapture error) text all law x h whole =
+whole-not-bad :
+    (t : Told) (name : List ℕ) (stream : Stream) (error : CapError) (text all : List ℕ) → CaptureExcludes
+    → IsTextAtBad (Some t) name stream error text → IsTextOfAll (Some t) name stream all → ⊥
+whole-not-bad t name stream error text all law h whole =
     elim h [
       | inl y ↦ both-on-file t name _ _ y.0 whole.whole (λ bytes bad capture. law.header bytes whole.head whole.packets error capture bad)
       | inr y ↦ both-on-file t name _ _ y.refused whole.whole
           (λ bytes bad capture. law.records bytes whole.head whole.packets y.packets error capture bad.refused)
     ]
-whole-not-refused t name stream (HeadersCut number) text all law x h whole = not-refused t name stream (HeadersCut number) text all law x h whole
-whole-not-refused t name stream (BadDomain error) text all law x h whole = not-refused t name stream (BadDomain error) text all law x h whole
+
+-- a whole capture isn't refused
+whole-not-refused :
+    (t : Told) (name : List ℕ) (stream : Stream) (reason : Reason) (text all : List ℕ) → CaptureExcludes → StreamExcludes stream
+    → StreamRefuses (Some t) name stream reason text → IsTextOfAll (Some t) name stream all → ⊥
+whole-not-refused t name stream reason text all law x h whole =
+    elim h [
+      | inl y ↦ both-on-file t name _ _ y.1 whole.whole (λ bytes long capture. omega (arith, long, capture.short))
+      | inr z ↦ elim z [
+        | inl y ↦ whole-not-bad t name stream y.0 text all law y.2 whole
+        | inr y ↦ not-refused t name stream reason text all law x y whole
+      ]
+    ]
 
 both-stream :
     (t : Told) (name : List ℕ) (stream : Stream) (e f : Ending) (a b : List ℕ) → CaptureExcludes → StreamExcludes stream

@@ -54,16 +54,15 @@ pub domain-stops :
     (before after : Inputs) (name bytes : List ℕ) (e : DomainError)
     → HasFile before.told name bytes → length bytes ≤ most_domain → TellsRefusal bytes e → StopsHere before after name JudgesDomain (domain_answer name e)
 domain-stops before after name bytes domain.Memory there short h = tt
-domain-stops before after name bytes e there short h = (refl, judged-of before.told name JudgesDomain bytes (Err (BadDomain e)) there (short, h))
+domain-stops before after name bytes e there short h =
+    (refl, judged-of before.told name JudgesDomain bytes (Err (BadDomain e)) there (inr (e, refl, short, h)))
 
 -- a domain isn't refused
 pub domain-excludes :
     ((bytes : List ℕ) (d : DomainValue) (e : DomainError) → IsDomainOf bytes d → IsDomainRefusal bytes e → ⊥)
     → (bytes : List ℕ) (d : DomainValue) (reason : Reason) → JudgesDomain bytes (Ok d) → JudgesDomain bytes (Err reason) → ⊥
-domain-excludes law bytes d TooLong taken refused = omega (arith, taken.0, refused)
-domain-excludes law bytes d (BadCapture error) taken refused = refused
-domain-excludes law bytes d (HeadersCut number) taken refused = refused
-domain-excludes law bytes d (BadDomain error) taken refused = law bytes d error taken.1 refused.1
+domain-excludes law bytes d reason taken refused =
+    elim refused [ inl x ↦ omega (arith, taken.0, x.1) | inr x ↦ law bytes d x.0 taken.1 x.3 ]
 
 -- a whole capture begins with all its records
 pub whole-begins : (bytes : List ℕ) (h : Head) (ps : List Packet) → IsWholeCapture bytes h ps → BeginsWith bytes h ps

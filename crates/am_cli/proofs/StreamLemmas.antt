@@ -1,12 +1,14 @@
 -- A capture that is printed record by record: what was printed so far, and what each exit of the loop leaves.
-use Rattle.std.proofs.Common.{arith, refl, sym, subst, ◌≡◌, ℕ, ◌+◌, ◌≤◌, List, [], ◌∷◌, ◌++◌, length, Option, Some, Ok, inl, inr}
+use Rattle.std.proofs.Common.{arith, refl, sym, ap, subst, ◌∙◌, ◌≡◌, ℕ, ◌+◌, ◌≤◌, Bool, min, List, [], ◌∷◌, ◌++◌, length, drop, Option, Some, Ok, inl, inr}
 use Rattle.std.specs.Prelude.{Result, IfOk, IfSome}
-use Rattle.std.proofs.lemmas.List.{length-append}
+use Rattle.std.proofs.lemmas.List.{length-append, length-take}
 use Rattle.std.specs.Io.KnownBytes.{append_known}
 use Rattle.am_base.specs.Counts.{Rose}
 use Rattle.am_base.specs.Shelves.{Told}
 use Rattle.am_base.specs.Sinks.{IsWrittenOf, HandsIn, BreaksOff, WritesAll, WritesFront}
-use Rattle.am_pcap.specs.Packets.{Packet}
+use Rattle.am_pcap.specs.Packets.{Packet, HoldsPackets, word, behind_first, most_captured}
+use Rattle.am_pcap.specs.Captures.{HasRecords, IsSplit}
+use Rattle.am_pcap.specs.declared.refusal.CapError.{CapError}
 use Rattle.am_pcap.specs.Answers.{GivesRecord, EndsReading, StopsReading}
 use Rattle.am_pcap.specs.CaptureFiles.{ReadsOn, WhyNotOpened}
 use Rattle.am_pcap.specs.Readings.{Reading}
@@ -14,13 +16,15 @@ use Rattle.am_pcap.specs.declared.head.Head.{Head}
 use Rattle.am_pcap.specs.declared.record.Record.{Record}
 use Rattle.am_pcap.specs.declared.capture.FileError.{FileError}
 use Rattle.am_pcap.specs.declared.capture.FileError.TheVariants as fault
-use Rattle.am_cli.specs.Answers.{Answer}
-use Rattle.am_cli.specs.Answers.Ending.{Done}
+use Rattle.am_cli.specs.Answers.{Reason, Answer}
+use Rattle.am_cli.specs.Answers.Ending.{Done, Refused}
 use Rattle.am_cli.specs.Answers.Answer.{Ended, WriteFault, NoMemory}
-use Rattle.am_cli.specs.Chains.{Inputs, Output, Stream, StreamsSo, IsTextOfFirst}
-use Rattle.am_cli.specs.Shown.{IsAnswered, capture_answer}
+use Rattle.am_cli.specs.Chains.{Inputs, Output, Stream, StreamsSo, IsTextOfFirst, IsTextOfAll}
+use Rattle.am_cli.specs.Shown.{IsAnswered, OnRefused, reason_shown, capture_answer, record_answer}
+use Rattle.am_cli.specs.declared.answer.Unprinted.{Unprinted}
+use Rattle.am_cli.specs.declared.answer.Unprinted.TheVariants as unprinted
 use Rattle.am_cli.proofs.ChainLemmas.{rose-later, whole-front, nothing}
-use Rattle.am_cli.specs.Showing.{Flushes}
+use Rattle.am_cli.specs.Printing.{Known, Flushes}
 
 -- the capture was read on, and what is printed of the packets that were given was written
 pub record Streaming (before now : Inputs) (old out : Output) (name : List ℕ) (stream : Stream) (c : Reading) (h : Head) : Type 0 where
@@ -123,7 +127,8 @@ not-opened :
 not-opened before after out name stream fault.Missing why missed failed = (missed refl, ([], (refl, why.1, refl), nothing out.written))
 not-opened before after out name stream fault.ReadFault why missed failed = (refl, failed refl, inl (why, refl))
 not-opened before after out name stream fault.TooLong why missed failed = absurd why
-not-opened before after out name stream (fault.Bad error) why missed failed = ([], (refl, inl (why.file, refl)), nothing out.written)
+not-opened before after out name stream (fault.Bad error) why missed failed =
+    ([], (refl, inr (inl (error, refl, inl (why.file, refl)))), nothing out.written)
 not-opened before after out name stream fault.Memory why missed failed =
     ([], inl refl, whole-front out.written out.written [] (nothing out.written))
 
@@ -137,17 +142,6 @@ pub stream-not-opened :
 stream-not-opened before after out name stream e answer why missed failed is =
     answered before after out out name stream (capture_answer name e) answer (not-opened before after out name stream e why missed failed)
     ([], inl refl, whole-front out.written out.written [] (nothing out.written)) is
-
--- there is no next record: all is printed
-pub stream-done :
-    (before now after : Inputs) (old out : Output) (name : List ℕ) (stream : Stream) (c : Reading) (h : Head) → (s : Streaming before now old out name stream c h)
-    → EndsReading c now.told after.told → stream.all_of h s.packets s.text → now.faults ≤ after.faults → now.missed ≤ after.missed
-    → StreamsSo before after old out name stream (Ended Done)
-stream-done before now after old out name stream c h s ends all faults missed =
-    let e = ends before.told name h s.packets s.on in (
-      record { kept = e.2; faults = omega (arith, s.faults, faults); missed = omega (arith, s.missed, missed); at_end = e.1 },
-      (s.text, record { head = h; packets = s.packets; whole = e.0; printed = all }, s.appended),
-    )
 
 -- why there is no next record: what was printed is what is printed of the packets before
 stopped :
@@ -167,10 +161,13 @@ stopped before now after old out name stream c h fault.ReadFault s stops failed 
   }),
 )
 stopped before now after old out name stream c h fault.TooLong s stops failed =
-    (s.text, (refl, ((stops before.told name h s.packets s.on).0, first before now old out name stream c h s)), s.appended)
+    (s.text, (refl, inl (refl, (stops before.told name h s.packets s.on).0, first before now old out name stream c h s)), s.appended)
 stopped before now after old out name stream c h (fault.Bad error) s stops failed = (
   s.text,
-  (refl, inr (record { head = h; packets = s.packets; refused = (stops before.told name h s.packets s.on).0; printed = s.printed })),
+  (
+    refl,
+    inr (inl (error, refl, inr (record { head = h; packets = s.packets; refused = (stops before.told name h s.packets s.on).0; printed = s.printed }))),
+  ),
   s.appended,
 )
 stopped before now after old out name stream c h fault.Memory s stops failed = absurd ((stops before.told name h s.packets s.on).0)
@@ -191,17 +188,21 @@ pub stream-more :
     → ReadsOn before.told after.told name n h (s.packets ++ p ∷ []) → stream.text_of h (s.packets ++ p ∷ []) (s.text ++ line)
     → HandsIn out.written held line new.written kept
     → now.faults ≤ after.faults → now.missed ≤ after.missed → out.faults ≤ new.faults
-    → Gathering before after old new kept name stream n h
-stream-more before now after old out new held kept name stream c n h p line s on printed handed faults missed out_faults = record {
-  packets = s.packets ++ p ∷ [];
-  text = s.text ++ line;
-  on = on;
-  printed = printed;
-  gathered = handed old.written s.text s.gathered;
-  faults = omega (arith, s.faults, faults);
-  missed = omega (arith, s.missed, missed);
-  out_faults = omega (arith, s.out_faults, out_faults);
-}
+    → (known : Known) → known h (s.packets ++ p ∷ [])
+    → (t : Gathering before after old new kept name stream n h) × known h t.packets
+stream-more before now after old out new held kept name stream c n h p line s on printed handed faults missed out_faults known k = (
+  record {
+    packets = s.packets ++ p ∷ [];
+    text = s.text ++ line;
+    on = on;
+    printed = printed;
+    gathered = handed old.written s.text s.gathered;
+    faults = omega (arith, s.faults, faults);
+    missed = omega (arith, s.missed, missed);
+    out_faults = omega (arith, s.out_faults, out_faults);
+  },
+  k,
+)
 
 -- the output failed where the line of one more record was handed in
 pub stream-unwritten :
@@ -223,6 +224,164 @@ stream-unwritten before now after old out new held name stream c n h p line s on
 pub stream-unbegun :
     (before after : Inputs) (out : Output) (name : List ℕ) (stream : Stream) → StreamsSo before after out out name stream NoMemory
 stream-unbegun before after out name stream = ([], inl refl, whole-front out.written out.written [] (nothing out.written))
+
+-- the file header was read, and what stands before all records was handed in
+pub stream-begun :
+    (before now : Inputs) (old new : Output) (fresh held piece name : List ℕ) (stream : Stream) (c : Reading) (h : Head)
+    → ReadsOn before.told now.told name c h [] → stream.text_of h [] piece
+    → ((start : Option (List ℕ)) → IsWrittenOf start start fresh []) → HandsIn old.written fresh piece new.written held
+    → before.faults ≤ now.faults → before.missed ≤ now.missed → old.faults ≤ new.faults
+    → (known : Known) → known h []
+    → (s : Gathering before now old new held name stream c h) × known h s.packets
+stream-begun before now old new fresh held piece name stream c h on printed begins handed faults missed out_faults known k = (
+  record {
+    packets = [];
+    text = piece;
+    on = on;
+    printed = printed;
+    gathered = handed old.written [] (begins old.written);
+    faults = faults;
+    missed = missed;
+    out_faults = out_faults;
+  },
+  k,
+)
+
+-- the output failed where it was handed in
+pub stream-unbegun-written :
+    (before now after : Inputs) (old new : Output) (fresh piece name : List ℕ) (stream : Stream) (c : Reading) (h : Head)
+    → ReadsOn before.told now.told name c h [] → stream.text_of h [] piece
+    → ((start : Option (List ℕ)) → IsWrittenOf start start fresh []) → BreaksOff old.written fresh piece new.written → Rose old.faults new.faults
+    → StreamsSo before after old new name stream WriteFault
+stream-unbegun-written before now after old new fresh piece name stream c h on printed begins breaks rose = (
+  rose,
+  (
+    piece,
+    inr (inl (record { head = h; packets = []; begins = on.begins; printed = printed })),
+    breaks old.written [] (begins old.written),
+  ),
+)
+
+-- the next record is not printed: what was printed is what is printed of the records before
+pub stream-unprinted :
+    (before now after : Inputs) (old out : Output) (name : List ℕ) (stream : Stream) (c n : Reading) (h : Head) (p : Packet) (e : Unprinted) (answer : Answer)
+    → (s : Streaming before now old out name stream c h)
+    → ReadsOn before.told after.told name n h (s.packets ++ p ∷ [])
+    → OnRefused e (λ reason. stream.refuses h s.packets p reason) → IsAnswered (record_answer name e) answer
+    → StreamsSo before after old out name stream answer
+stream-unprinted before now after old out name stream c n h p (unprinted.Refused reason) answer s on refused is =
+    answered before after old out name stream (Ended (Refused (Some name) (reason_shown reason))) answer (
+      s.text,
+      (
+        refl,
+        inr (inr (record {
+          head = h;
+          packets = s.packets;
+          packet = p;
+          begins = s.on.begins;
+          next = on.begins;
+          refused = refused;
+          printed = s.printed;
+        })),
+      ),
+      s.appended,
+    )
+    (stream-memory before now after old out name stream c h s) is
+stream-unprinted before now after old out name stream c n h p unprinted.NoMemory answer s on refused is =
+    answered before after old out name stream NoMemory answer (stream-memory before now after old out name stream c h s)
+    (stream-memory before now after old out name stream c h s) is
+
+-- the same, after the flush before it
+pub stream-unprinted-flushed :
+    (before now after : Inputs) (old out new : Output) (held name : List ℕ) (stream : Stream) (c n : Reading) (h : Head) (p : Packet) (e : Unprinted)
+    (wanted answer : Answer)
+    → (s : Gathering before now old out held name stream c h)
+    → ReadsOn before.told after.told name n h (s.packets ++ p ∷ [])
+    → OnRefused e (λ reason. stream.refuses h s.packets p reason) → IsAnswered (record_answer name e) wanted → Flushes out held new wanted answer
+    → StreamsSo before after old new name stream answer
+unfolding handed-on
+stream-unprinted-flushed before now after old out new held name stream c n h p e wanted answer s on refused is flushes =
+    elim flushes [
+      | inl f ↦ subst (λ a. StreamsSo before after old new name stream a) (sym f.0)
+          (stream-unprinted before now after old new name stream c n h p e wanted (handed-on before now old out new held name stream c h s f.1 f.2) on refused is)
+      | inr f ↦ subst (λ a. StreamsSo before after old new name stream a) (sym f.0)
+          (stream-unflushed before now after old out new held name stream c h s f.1 f.2)
+    ]
+
+-- what is said of the reason of a refusal, said of it weaker
+pub on-refused : (e : Unprinted) (P Q : Reason → Type 0) → OnRefused e P → ((reason : Reason) → P reason → Q reason) → OnRefused e Q
+on-refused (unprinted.Refused reason) P Q p f = f (reason_shown reason) p
+on-refused unprinted.NoMemory P Q p f = tt
+
+-- there is no next record, and what stands behind all records was handed in
+pub stream-ended :
+    (before now after : Inputs) (old out new last : Output) (held kept piece name : List ℕ) (stream : Stream) (c : Reading) (h : Head) (answer : Answer)
+    → (s : Gathering before now old out held name stream c h)
+    → EndsReading c now.told after.told → stream.all_of h s.packets (s.text ++ piece)
+    → HandsIn out.written held piece new.written kept → out.faults ≤ new.faults → Flushes new kept last (Ended Done) answer
+    → now.faults ≤ after.faults → now.missed ≤ after.missed
+    → StreamsSo before after old last name stream answer
+stream-ended before now after old out new last held kept piece name stream c h answer s ends all handed more flushes faults missed =
+    let e = ends before.told name h s.packets s.on in
+    let whole : IsTextOfAll before.told name stream (s.text ++ piece) = record { head = h; packets = s.packets; whole = e.0; printed = all } in
+    let gathered = handed old.written s.text s.gathered in
+    elim flushes [
+      | inl f ↦ subst (λ a. StreamsSo before after old last name stream a) (sym f.0) (
+        record { kept = e.2; faults = omega (arith, s.faults, faults); missed = omega (arith, s.missed, missed); at_end = e.1 },
+        (s.text ++ piece, whole, f.1 old.written (s.text ++ piece) gathered),
+      )
+      | inr f ↦ subst (λ a. StreamsSo before after old last name stream a) (sym f.0) (
+        rose-later old.faults new.faults last.faults (omega (arith, s.out_faults, more)) f.2,
+        (s.text ++ piece, inr (inr whole), f.1 old.written (s.text ++ piece) gathered),
+      )
+    ]
+
+-- the output failed where it was handed in
+pub stream-unended :
+    (before now after : Inputs) (old out new : Output) (held piece name : List ℕ) (stream : Stream) (c : Reading) (h : Head)
+    → (s : Gathering before now old out held name stream c h)
+    → EndsReading c now.told after.told → stream.all_of h s.packets (s.text ++ piece)
+    → BreaksOff out.written held piece new.written → Rose out.faults new.faults
+    → StreamsSo before after old new name stream WriteFault
+stream-unended before now after old out new held piece name stream c h s ends all breaks rose =
+    let e = ends before.told name h s.packets s.on in (
+      rose-later old.faults out.faults new.faults s.out_faults rose,
+      (
+        s.text ++ piece,
+        inr (inr (record { head = h; packets = s.packets; whole = e.0; printed = all })),
+        breaks old.written s.text s.gathered,
+      ),
+    )
+
+-- the file header that was read is the one that the capture tells
+pub reads-of :
+    (before now : Option Told) (name : List ℕ) (c : Reading) (k : Head) (ps : List Packet)
+    → (h : Head) × (c.decoded.summary.head ≡ Some h) × ReadsOn before now name c h ps → c.decoded.summary.head ≡ Some k → ReadsOn before now name c k ps
+reads-of before now name c k ps r e = let same : r.0 ≡ k = cc (r.1, e) in subst (λ x. ReadsOn before now name c x ps) same r.2
+
+-- the last packet of whole records has no more bytes than a record may have
+last-short :
+    (big : Bool) (bytes : List ℕ) (ps : List Packet) (p : Packet) (rest : List ℕ) → HoldsPackets big bytes (ps ++ p ∷ []) rest
+    → length p.bytes ≤ most_captured
+last-short big bytes [] p rest h =
+    let same : length p.bytes ≡ min (word big bytes 8) (length (drop 16 bytes)) =
+    ap (λ x. length x.bytes) h.1 ∙ length-take (word big bytes 8) (drop 16 bytes) in
+    omega (arith, same, h.0.not_long)
+last-short big bytes (q ∷ qs) p rest h = last-short big (behind_first big bytes) qs p rest h.2
+
+split-short :
+    (bytes : List ℕ) (ps : List Packet) (p : Packet) (unfinished : List ℕ) (o : Option Head) (error : Option CapError) (h : Head)
+    → o ≡ Some h → IsSplit o error bytes (ps ++ p ∷ []) unfinished → length p.bytes ≤ most_captured
+split-short bytes ps p unfinished o error h e s =
+    let records : HasRecords bytes (ps ++ p ∷ []) unfinished h error = subst (λ x. IsSplit x error bytes (ps ++ p ∷ []) unfinished) e s in
+    last-short h.form.big (drop 24 bytes) ps p unfinished records.records
+
+-- nor has the last record that was read
+pub read-short :
+    (before now : Option Told) (name : List ℕ) (n : Reading) (h : Head) (ps : List Packet) (p : Packet)
+    → ReadsOn before now name n h (ps ++ p ∷ []) → length p.bytes ≤ most_captured
+read-short before now name n h ps p on =
+    split-short on.given.taken ps p n.decoded.summary.unfinished n.decoded.summary.head n.decoded.summary.error h on.head on.given.summary.split
 
 -- what is said of an answer with a record
 pub gave-record :

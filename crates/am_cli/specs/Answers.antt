@@ -1,7 +1,7 @@
 -- What a command answers: how it ended, with which status, and the line on standard error.
 use Rattle.std.specs.Prelude.{ℕ, List, [], ◌++◌, Option, Some, None, codes, decimal}
 use Rattle.am_pcap.specs.declared.refusal.CapError.{CapError}
-use Rattle.am_pcap.specs.declared.refusal.CapError.TheVariants.{BadMagic, BadVersion, UnknownLink, RecordTooLong, CutFile}
+use Rattle.am_pcap.specs.CaptureTexts.{capture_text}
 use Rattle.am_domain.specs.declared.error.DomainError.{DomainError}
 use Rattle.am_domain.specs.DomainTexts.{domain_text}
 
@@ -50,14 +50,6 @@ status (ReadFault name) = 5
 status WriteFault = 6
 status NoMemory = 7
 
--- what is said of a capture that is refused
-abbrev pub capture_text : CapError → List ℕ
-capture_text BadMagic = codes "bad magic"
-capture_text BadVersion = codes "bad version"
-capture_text (UnknownLink link) = codes "unknown link type " ++ decimal link
-capture_text (RecordTooLong number length) = codes "record " ++ decimal number ++ codes " is too long: " ++ decimal length
-capture_text (CutFile number) = codes "file ends in record " ++ decimal number
-
 -- what is said of an input that is refused
 abbrev pub reason_text : Reason → List ℕ
 reason_text TooLong = codes "too long"
@@ -68,10 +60,8 @@ reason_text (BadDomain error) = domain_text error
 -- what stands before that: the file's name, and of a domain that was read whole the word `domain`
 abbrev pub subject : Option (List ℕ) → Reason → List ℕ
 subject None reason = []
-subject (Some name) TooLong = name ++ codes ": "
-subject (Some name) (BadCapture error) = name ++ codes ": "
-subject (Some name) (HeadersCut number) = name ++ codes ": "
 subject (Some name) (BadDomain error) = codes "domain: "
+subject (Some name) reason = name ++ codes ": "
 
 -- a line that says this
 abbrev pub said : List ℕ → List ℕ

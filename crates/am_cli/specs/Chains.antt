@@ -95,13 +95,18 @@ pub record IsTextBeforeRefused (told : Option Told) (name : List ℕ) (stream : 
   pub refused : stream.refuses head packets packet reason
   pub printed : stream.text_of head packets text
 
--- a capture that is printed record by record is refused so, and this text is printed before: nothing where its file header
--- is refused, else what is printed of the records before the refused one; of a file that is too long, of some first records
-abbrev pub StreamRefuses : Option Told → List ℕ → Stream → Reason → List ℕ → Type 0
-StreamRefuses told name stream TooLong text = OnFile told name IsLong × IsTextOfFirst told name stream text
-StreamRefuses told name stream (BadCapture error) text =
+-- the file header is refused, and nothing is printed; or a record is, and what is printed of those before it
+abbrev pub IsTextAtBad : Option Told → List ℕ → Stream → CapError → List ℕ → Type 0
+IsTextAtBad told name stream error text =
     (OnFile told name (λ bytes. IsRefusedHeader bytes error) × (text ≡ [])) ⊎ IsTextBeforeBad told name stream error text
-StreamRefuses told name stream reason text = IsTextBeforeRefused told name stream reason text
+
+-- a capture that is printed record by record is refused so, and this text is printed before: of a file that is too long,
+-- of some first records; of bytes that are no capture, and of a record that the stream refuses, of all records before
+abbrev pub StreamRefuses : Option Told → List ℕ → Stream → Reason → List ℕ → Type 0
+StreamRefuses told name stream reason text =
+    ((reason ≡ TooLong) × OnFile told name IsLong × IsTextOfFirst told name stream text)
+    ⊎ ((error : CapError) × (reason ≡ BadCapture error) × IsTextAtBad told name stream error text)
+    ⊎ IsTextBeforeRefused told name stream reason text
 
 -- what a capture that is printed record by record comes to, and the text that is printed
 abbrev pub StreamEnds : Option Told → List ℕ → Stream → Ending → List ℕ → Type 0

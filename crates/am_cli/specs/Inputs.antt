@@ -1,7 +1,8 @@
 -- The inputs that commands take whole: how the bytes of each are judged.
-use Rattle.std.specs.Prelude.{◌≡◌, ℕ, ◌<◌, ◌≤◌, List, length, Result, Ok, Err}
+use Rattle.std.specs.Prelude.{◌≡◌, ◌⊎◌, ℕ, ◌<◌, ◌≤◌, List, length, Result, Ok, Err}
 use Rattle.am_ip6.specs.declared.marks.Place.{Place}
 use Rattle.am_domain.specs.Domains.{DomainValue, IsDomainOf, IsDomainRefusal}
+use Rattle.am_domain.specs.declared.error.DomainError.{DomainError}
 use Rattle.am_meter.specs.Marks.{MarksRefusal, JudgesMarks}
 use Rattle.am_meter.specs.declared.stream.Marked.{Marked}
 use Rattle.am_meter.specs.Marks.MarksRefusal.{Long, BadCapture as RefusedMarks, HeadersCut as CutMarks}
@@ -15,10 +16,9 @@ most_domain = 1048576
 -- a domain file: the domain that its bytes say, or their first refusal
 abbrev pub JudgesDomain : List ℕ → Result DomainValue Reason → Type 0
 JudgesDomain bytes (Ok d) = (length bytes ≤ most_domain) × IsDomainOf bytes d
-JudgesDomain bytes (Err TooLong) = most_domain < length bytes
-JudgesDomain bytes (Err (BadDomain error)) = (length bytes ≤ most_domain) × IsDomainRefusal bytes error
-JudgesDomain bytes (Err (BadCapture error)) = ⊥
-JudgesDomain bytes (Err (HeadersCut number)) = ⊥
+JudgesDomain bytes (Err reason) =
+    ((reason ≡ TooLong) × (most_domain < length bytes))
+    ⊎ ((error : DomainError) × (reason ≡ BadDomain error) × (length bytes ≤ most_domain) × IsDomainRefusal bytes error)
 
 -- why a capture is refused that is taken for its marked records
 abbrev pub marks_reason : MarksRefusal → Reason

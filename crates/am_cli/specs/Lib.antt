@@ -8,6 +8,7 @@ pub mod Tallies
 pub mod Counting
 pub mod Lines
 pub mod Showing
+pub mod Printing
 pub mod Checking
 pub mod commands
 pub mod Forms

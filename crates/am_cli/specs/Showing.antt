@@ -1,15 +1,10 @@
--- What the parts of `show` add to a line and to the output.
-use Rattle.std.specs.Prelude.{◌≡◌, ◌≤◌, ◌⊎◌, ℕ, Bool, List, ◌++◌}
-use Rattle.am_base.specs.Counts.{Rose}
-use Rattle.am_base.specs.Sinks.{WritesAll, WritesFront}
+-- What the parts of `show` add to a line.
+use Rattle.std.specs.Prelude.{◌≡◌, ℕ, Bool, List, ◌++◌}
 use Rattle.am_pcap.specs.Packets.{Packet}
 use Rattle.am_pcap.specs.Frames.{IsFramed}
 use Rattle.am_pcap.specs.declared.frame.Frame.{Frame}
 use Rattle.am_pcap.specs.declared.frame.LinkKind.{LinkKind}
 use Rattle.am_pcap.specs.CaptureFiles.{is_whole}
-use Rattle.am_cli.specs.Answers.{Answer}
-use Rattle.am_cli.specs.Answers.Answer.{WriteFault}
-use Rattle.am_cli.specs.Chains.{Output}
 use Rattle.am_cli.specs.Lines.{IsFrameText, IsPacketText}
 
 -- a line grew by what a record holds
@@ -25,9 +20,3 @@ pub record AddsPacket (packet : List ℕ) (whole : Bool) (old new : List ℕ) : 
   pub held : List ℕ
   pub text : IsPacketText packet whole held
   pub added : new ≡ old ++ held
-
--- all that a buffer held was written, and the answer is the wanted one; or the output failed, and a front of it was
-abbrev pub Flushes : Output → List ℕ → Output → Answer → Answer → Type 0
-Flushes old held new wanted answer =
-    ((answer ≡ wanted) × WritesAll old.written held new.written × (old.faults ≤ new.faults))
-    ⊎ ((answer ≡ WriteFault) × WritesFront old.written held new.written × Rose old.faults new.faults)

@@ -1,5 +1,5 @@
 -- What the program's own values say: a command, an answer.
-use Rattle.std.specs.Prelude.{◌≡◌, ◌⊎◌, ℕ, List, Some, Result, Ok, Err, option_map, string_bytes}
+use Rattle.std.specs.Prelude.{◌≡◌, ◌⊎◌, ⊤, ℕ, List, Some, Result, Ok, Err, option_map, string_bytes}
 use Rattle.am_base.specs.declared.file.FileFault.{FileFault}
 use Rattle.am_base.specs.declared.file.FileFault.TheVariants as whole
 use Rattle.am_pcap.specs.declared.capture.FileError.{FileError}
@@ -18,6 +18,8 @@ use Rattle.am_cli.specs.commands.Check as check
 use Rattle.am_cli.specs.declared.answer.Reason.{Reason}
 use Rattle.am_cli.specs.declared.answer.Reason.TheVariants.{TooLong, BadCapture, HeadersCut, BadDomain}
 use Rattle.am_cli.specs.declared.answer.Stop.{Stop}
+use Rattle.am_cli.specs.declared.answer.Unprinted.{Unprinted}
+use Rattle.am_cli.specs.declared.answer.Unprinted.TheVariants as unprinted
 use Rattle.am_cli.specs.declared.answer.Stop.TheVariants.{NoCommand, Missing, Refused, ReadFault, WriteFault, NoMemory}
 use Rattle.am_cli.specs.declared.commands.link.LinkWords.{LinkWords}
 use Rattle.am_cli.specs.declared.commands.show.ShowWords.{ShowWords}
@@ -93,6 +95,16 @@ capture_answer name capture.Memory = said.Answer.NoMemory
 abbrev pub stream_answer : List ℕ → MeterError → Answer
 stream_answer name (meter.File error) = capture_answer name error
 stream_answer name (meter.HeadersCut number) = said.Answer.Ended (said.Ending.Refused (Some name) (said.Reason.HeadersCut number))
+
+-- what is said of the reason where a record is refused
+abbrev pub OnRefused : Unprinted → (said.Reason → Type 0) → Type 0
+OnRefused (unprinted.Refused reason) P = P (reason_shown reason)
+OnRefused unprinted.NoMemory P = ⊤
+
+-- the answer where a record of this capture isn't printed
+abbrev pub record_answer : List ℕ → Unprinted → Answer
+record_answer name (unprinted.Refused reason) = said.Answer.Ended (said.Ending.Refused (Some name) (reason_shown reason))
+record_answer name unprinted.NoMemory = said.Answer.NoMemory
 
 -- the answer where the bytes of this file are no domain file
 abbrev pub domain_answer : List ℕ → DomainError → Answer

@@ -1,8 +1,8 @@
 //! Why a command stops, with which status, and the one line that it leaves on standard error.
 ghost use Rattle.std.specs.Prelude.{◌≡◌, ◌++◌, Some, IfOk, OnOk, option_map, string_bytes, codes, decimal};
 ghost use Rattle.am_cli.specs.Answers as said;
-ghost use Rattle.am_cli.specs.Answers.{said_of, refusal_line, subject, reason_text, capture_text, line, status};
-ghost use Rattle.am_cli.specs.Shown.{reason_shown, stop_shown, IsAnswered, file_answer, capture_answer, stream_answer, domain_answer};
+ghost use Rattle.am_cli.specs.Answers.{said_of, refusal_line, subject, reason_text, line, status};
+ghost use Rattle.am_cli.specs.Shown.{reason_shown, stop_shown, IsAnswered, file_answer, capture_answer, stream_answer, record_answer, domain_answer};
 
 use am_base::FileFault;
 use am_domain::DomainError;
@@ -22,6 +22,15 @@ pub enum Reason {
     HeadersCut { number: u64 },
     /// Its bytes are no domain file.
     BadDomain { error: DomainError },
+}
+
+/// Why a record of a capture isn't printed.
+#[derive(Clone, Copy, Debug)]
+pub enum Unprinted {
+    /// It is refused.
+    Refused { reason: Reason },
+    /// There was not enough memory.
+    NoMemory,
 }
 
 /// Why a command stops. Each owns the name that it tells.
@@ -122,6 +131,16 @@ impl Stop {
         }
     }
 
+    /// A record of this capture isn't printed.
+    pub fn of_record(alloc: Global, name: &str, error: Unprinted) -> Stop
+        ensures { IsAnswered (record_answer name.now error) (stop_shown result) }
+    {
+        match error {
+            Unprinted::Refused { reason } => Stop::refused(alloc, name, reason),
+            Unprinted::NoMemory => Stop::NoMemory,
+        }
+    }
+
     /// The bytes of this file are no domain file.
     pub fn of_domain(alloc: Global, name: &str, error: DomainError) -> Stop
         ensures { IsAnswered (domain_answer name.now error) (stop_shown result) }
@@ -214,29 +233,8 @@ fn push_reason(line: &mut String, reason: Reason) -> Result<(), AllocError>
 {
     match reason {
         Reason::TooLong => line.push_str("too long"),
-        Reason::BadCapture { error } => push_capture(line, error),
+        Reason::BadCapture { error } => write!(line, "{error}"),
         Reason::HeadersCut { number } => write!(line, "headers of record {number} are cut"),
         Reason::BadDomain { error } => write!(line, "{error}"),
     }
-}
-
-// Adds why a capture is refused.
-fn push_capture(line: &mut String, error: CapError) -> Result<(), AllocError>
-    ensures { OnOk result (string_bytes line.new ≡ string_bytes line.old ++ capture_text error) }
-{
-    match error {
-        CapError::BadMagic => line.push_str("bad magic"),
-        CapError::BadVersion => line.push_str("bad version"),
-        CapError::UnknownLink { link } => write!(line, "unknown link type {link}"),
-        CapError::RecordTooLong { number, length } => push_too_long(line, number, length),
-        CapError::CutFile { number } => write!(line, "file ends in record {number}"),
-    }
-}
-
-// Adds that a record says too many bytes.
-fn push_too_long(line: &mut String, number: u64, length: u32) -> Result<(), AllocError>
-    ensures { OnOk result (string_bytes line.new ≡ string_bytes line.old
-        ++ (codes "record " ++ decimal number ++ codes " is too long: " ++ decimal length)) }
-{
-    write!(line, "record {number} is too long: {length}")
 }

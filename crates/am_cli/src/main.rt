@@ -9,6 +9,7 @@ mod commands;
 mod counting;
 mod inputs;
 mod laws;
+mod printing;
 mod run;
 mod table;
 #[cfg(test)]

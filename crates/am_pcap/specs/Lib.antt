@@ -1,8 +1,10 @@
 pub mod Packets
+pub mod Spelling
 pub mod Shown
 pub mod Frames
 pub mod Heads
 pub mod Captures
+pub mod CaptureTexts
 pub mod Decoded
 pub mod Lent
 pub mod LentBytes

@@ -2,6 +2,7 @@
 ghost use Rattle.std.specs.Prelude.{◌≡◌, ◌+◌, ◌++◌, ◌∷◌, ℕ, [], ◌<◌, ◌≤◌, ◌≢◌, ◌^◌, ◌↔◌, List, length, IfSome, IfNone, IsTrue, cond};
 ghost use Rattle.std.specs.Int.{w32, to_be_bytes, to_le_bytes};
 ghost use Rattle.am_pcap.specs.Packets.{word, HoldsPackets};
+ghost use Rattle.am_pcap.specs.Spelling.{head_spelled};
 ghost use Rattle.am_pcap.specs.Heads.{half, magic_of, link_number, link_bits, HasMagic, IsHead, IsJudged, SomeMagic};
 ghost use Rattle.am_pcap.specs.declared.frame.LinkKind.{LinkKind};
 
@@ -86,6 +87,7 @@ pub fn record_head(
     ensures fraction { word form.big result 4 ≡ fraction }
     ensures captured { word form.big result 8 ≡ captured }
     ensures original { word form.big result 12 ≡ original }
+    ensures bytes { result ≡ head_spelled form.big seconds fraction captured original }
     ensures spelled { (bytes : List ℕ) → length bytes ≡ captured → captured ≤ 262144
         → HoldsPackets form.big (result ++ bytes)
         (record { seconds = seconds; fraction = fraction; original = original; bytes = bytes } ∷ [])

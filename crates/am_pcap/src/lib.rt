@@ -13,6 +13,7 @@ mod frame;
 mod head;
 mod held;
 mod laws;
+mod message;
 mod record;
 mod refusal;
 #[cfg(test)]

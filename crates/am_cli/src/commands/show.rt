@@ -1,5 +1,5 @@
 //! The command `show`: what each record of a capture says, a line a record.
-ghost use Rattle.std.specs.Prelude.{◌≡◌, ◌++◌, ◌∷◌, [], ℕ, List, map, string_bytes, OnOk, IfSome, IfNone, flat_map, codes, decimal};
+ghost use Rattle.std.specs.Prelude.{◌≡◌, ◌++◌, ◌∷◌, [], ℕ, ⊤, List, map, string_bytes, OnOk, IfSome, IfNone, flat_map, codes, decimal};
 ghost use Rattle.am_opts.specs.Marking.{bit};
 ghost use Rattle.am_ip6.specs.Chains.{Lent, HasHeaders};
 ghost use Rattle.am_ip6.specs.Shown.{ending_shown};
@@ -7,15 +7,16 @@ ghost use Rattle.am_ip6.specs.Seen.{seen_shown};
 ghost use Rattle.am_pcap.specs.Shown.{packet_shown};
 ghost use Rattle.am_cli.specs.Chains.{inputs, output, Performs};
 ghost use Rattle.am_cli.specs.Lines.{IsLine, header_text, ending_text, seen_text};
-ghost use Rattle.am_cli.specs.Showing.{AddsFrame, AddsPacket, Flushes};
-ghost use Rattle.am_cli.specs.commands.Show.{Show, SaysShowWords, show_chain};
+ghost use Rattle.am_cli.specs.Showing.{AddsFrame, AddsPacket};
+ghost use Rattle.am_cli.specs.commands.Show.{Show, SaysShowWords, record_lines, show_chain};
 ghost use Rattle.am_cli.specs.Shown.{show_shown, answer_of};
 
-use crate::answer::Stop;
+use crate::answer::{Stop, Unprinted};
+use crate::printing::{Printing, print_capture};
 use crate::words::is_file_name;
-use am_base::{Buffer, Shelf, Sink};
+use am_base::{Shelf, Sink};
 use am_ip6::{Ending, Found, Place, Walk, find_mark, walk_ending};
-use am_pcap::{Capture, Frame, Head, LinkKind, Record, packet_of};
+use am_pcap::{Frame, Head, LinkKind, Record, packet_of};
 use std::alloc::{AllocError, Global};
 use std::fmt::Write;
 
@@ -48,8 +49,40 @@ fn file_word(file: &str) -> Option<ShowWords<'_>>
     Some(ShowWords { file })
 }
 
-/// Reads the capture record by record. The line of each goes into a buffer before the next record is looked at, and all
-/// that the buffer holds is written before any answer.
+/// The line of each record.
+struct RecordLines;
+
+impl Printing for RecordLines {
+    type State = String;
+
+    ghost stream = { λ p. record_lines };
+
+    ghost knows = { λ p line h ps. ⊤ };
+
+    ghost piece = { λ p line. string_bytes line };
+
+    fn begin(&self, alloc: Global, _head: &Head) -> Result<String, AllocError> {
+        Ok(String::new(alloc))
+    }
+
+    fn take(&self, line: &mut String, head: &Head, packet: &Record<'_>) -> Result<(), Unprinted> {
+        match show_line(line, packet, head) {
+            Ok(()) => Ok(()),
+            Err(_) => Err(Unprinted::NoMemory),
+        }
+    }
+
+    fn finish(&self, line: &mut String, _head: &Head) -> Result<(), AllocError> {
+        line.clear();
+        Ok(())
+    }
+
+    fn text<'a>(&self, line: &'a String) -> &'a [u8] {
+        line.as_bytes()
+    }
+}
+
+/// Prints the line of each record of the capture.
 pub fn show<S: Shelf, O: Sink>(
     alloc: Global,
     words: &ShowWords<'_>,
@@ -62,43 +95,7 @@ pub fn show<S: Shelf, O: Sink>(
         (output (O.written out.new) (O.faults out.new))
         (show_chain (show_shown words.now)) (answer_of result) }
 {
-    let name = words.file;
-    let mut capture = match Capture::open(alloc, shelf, name) {
-        Ok(capture) => capture,
-        Err(error) => return Err(Stop::of_capture(alloc, name, error)),
-    };
-    let head = capture.head();
-    let Ok(mut buffer) = Buffer::new(alloc) else {
-        return Err(Stop::NoMemory);
-    };
-    let mut line = String::new(alloc);
-    'records: loop {
-        let record = match capture.next(shelf) {
-            Ok(Some(record)) => record,
-            Ok(None) => return flushed(&mut buffer, out, Ok(())),
-            Err(error) => {
-                let stop = Stop::of_capture(alloc, name, error);
-                return flushed(&mut buffer, out, Err(stop));
-            }
-        };
-        let Ok(()) = show_line(&mut line, &record, &head) else {
-            return flushed(&mut buffer, out, Err(Stop::NoMemory));
-        };
-        let Ok(()) = buffer.write(out, line.as_bytes()) else {
-            return Err(Stop::WriteFault);
-        };
-    }
-}
-
-// This answer, once all that is held was written; a fault of the output comes first.
-fn flushed<O: Sink>(buffer: &mut Buffer, out: &mut O, answer: Result<(), Stop>) -> Result<(), Stop>
-    ensures { Flushes (output (O.written out.old) (O.faults out.old)) buffer.old
-        (output (O.written out.new) (O.faults out.new)) (answer_of answer) (answer_of result) }
-{
-    let Ok(()) = buffer.flush(out) else {
-        return Err(Stop::WriteFault);
-    };
-    answer
+    print_capture(alloc, &RecordLines, words.file, shelf, out)
 }
 
 // The line of a record, in the place of what the text was.

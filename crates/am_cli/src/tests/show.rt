@@ -173,3 +173,48 @@ fn shows_what_was_read_before_a_fault(rt: HostRuntime) -> Result<(), Fail> {
     }
     Ok(())
 }
+
+// Of 2,800 records the buffer of 65,536 bytes takes the lines of the first 1,382, which are 65,504 bytes, and then those of
+// 1,337 more, which end at 131,017. One read gives 65,536 bytes, so the first ends in record 1,024 and the second in
+// record 2,048. How many bytes are printed is counted by hand: a line has 41 bytes and twice the digits of its number.
+#[test]
+fn shows_around_the_edge_of_the_buffer(rt: HostRuntime) -> Result<(), Fail> {
+    let alloc = rt.alloc();
+    let mut bytes = Vec::from_slice(alloc, &HEAD)?;
+    let mut lines = Vec::new(alloc);
+    for number in 1..=2_800u32 {
+        push_seen(&mut bytes, (number, 0, PLAIN))?;
+        let line = format!(in alloc; "{number} {number}000000000 48 48 ip6 0:8,=59 74565/0/0 -\n")?;
+        lines.extend_from_slice(line.as_bytes())?;
+    }
+    let all = 179_224;
+    let rows: [(usize, Faults, u8, usize, &str); 15] = [
+        (all, NONE, 0, 134_986, ""),
+        (88_448, NONE, 3, 65_455, "u.pcap: file ends in record 1382"),
+        (88_512, NONE, 3, 65_504, "u.pcap: file ends in record 1383"),
+        (88_576, NONE, 3, 65_553, "u.pcap: file ends in record 1384"),
+        (all, read(2), 5, 47_913, "u.pcap: read fault"),
+        (all, read(3), 5, 98_089, "u.pcap: read fault"),
+        (all, read(4), 5, 134_986, "u.pcap: read fault"),
+        (88_512, write(1), 6, 0, "write fault"),
+        (88_576, write(2), 6, 65_504, "write fault"),
+        (all, write(1), 6, 0, "write fault"),
+        (all, write(2), 6, 65_504, "write fault"),
+        (all, write(3), 6, 131_017, "write fault"),
+        (all, room(65_503), 6, 65_503, "write fault"),
+        (all, room(65_504), 6, 65_504, "write fault"),
+        (all, room(65_505), 6, 65_505, "write fault"),
+    ];
+    for (length, faults, status, printed, cause) in rows {
+        let cut = altered(alloc, &bytes, &[], length)?;
+        let out = altered(alloc, &lines, &[], printed)?;
+        let ran = run_over(alloc, &SHOW, pair(alloc, &cut, &HEAD)?, faults)?;
+        let line = match cause {
+            "" => String::new(alloc),
+            cause => format!(in alloc; "altmark: {cause}\n")?,
+        };
+        let row = format!(in alloc; "{length} bytes, with {faults:?}")?;
+        wants_bytes(&rt, &ran, (status, "", &line), &out, &row);
+    }
+    Ok(())
+}
