@@ -1,0 +1,9 @@
+pub mod ListLemmas
+pub mod Carried
+pub mod Headers
+pub mod Undone
+pub mod Writing
+pub mod FirstMark
+pub mod Refused
+pub mod Planned
+pub mod Alone

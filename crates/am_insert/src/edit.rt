@@ -1,0 +1,128 @@
+//! An edit of a packet: eight bytes come in or go out, and the payload length and one further byte change.
+
+ghost use Rattle.std.specs.Prelude.{◌≡◌, ◌+◌, ◌≤◌, ◌<◌, ◌++◌, length, slice_set, OnOk, OnErr, IfOk};
+ghost use Rattle.std.specs.Io.KnownBytes.{append_known};
+ghost use Rattle.am_base.specs.Counts.{Rose};
+ghost use Rattle.am_base.specs.Sinks.{AppendsFront};
+ghost use Rattle.am_insert.specs.Changes.{with_payload};
+ghost use Rattle.am_insert.specs.Edits.{edited, IsEditOf};
+
+use am_base::{Fault, Sink, put};
+use std::alloc::{AllocError, Global};
+use std::marker::Model;
+
+// The fixed header (RFC 8200, section 3).
+const FIXED_LENGTH: usize = 40;
+
+// How many bytes come in or go out.
+const MOVED: usize = 8;
+
+/// How a packet changes. It keeps places and bytes, and nothing of the packet itself.
+#[derive(Drop)]
+pub struct Edit {
+    // the payload length, and one further byte at its place
+    pub(crate) payload: u16,
+    pub(crate) place: usize,
+    pub(crate) byte: u8,
+    // where eight bytes come in or go out: those that come in, if they do
+    pub(crate) at: usize,
+    pub(crate) eight: Option<[u8; MOVED]>,
+}
+
+impl Model for Edit {
+    ghost use Rattle.am_insert.specs.Edits.{Change};
+
+    ghost Value = { Change };
+
+    ghost view = { λ e. record {
+      payload = e.payload;
+      place = e.place;
+      byte = e.byte;
+      at = e.at;
+      eight = e.eight;
+    } };
+}
+
+impl Edit {
+    /// Appends the changed packet. The bytes are those of the plan.
+    ///
+    /// `Fault`: the sink failed; a front of the changed packet was appended.
+    pub fn write<S: Sink>(&self, bytes: &[u8], sink: &mut S) -> Result<(), Fault>
+        requires { IsEditOf self.now bytes.now }
+        ensures all { OnOk result (S.written sink.new
+            ≡ append_known (S.written sink.old) (edited self.now bytes.now)) }
+        ensures front { OnErr result (AppendsFront
+            (S.written sink.old) (S.written sink.new) (edited self.now bytes.now)) }
+        ensures failed { OnErr result (Rose (S.faults sink.old) (S.faults sink.new)) }
+        ensures faults_stay { S.faults sink.old ≤ S.faults sink.new }
+    {
+        let (front, behind) = bytes.split_at(self.at);
+        self.write_front(front, sink)?;
+        match &self.eight {
+            Some(eight) => put_both(sink, eight, behind),
+            None => put(sink, &behind[MOVED..]),
+        }
+    }
+
+    // Appends what stands before the place where bytes come in or go out, with the bytes that change.
+    fn write_front<S: Sink>(&self, front: &[u8], sink: &mut S) -> Result<(), Fault>
+        requires fixed { 40 ≤ length front.now }
+        requires before { self.now.place < length front.now }
+        ensures all { OnOk result (S.written sink.new ≡ append_known (S.written sink.old)
+            (slice_set (with_payload self.now.payload front.now) self.now.place self.now.byte)) }
+        ensures front { OnErr result (AppendsFront (S.written sink.old) (S.written sink.new)
+            (slice_set (with_payload self.now.payload front.now) self.now.place self.now.byte)) }
+        ensures failed { OnErr result (Rose (S.faults sink.old) (S.faults sink.new)) }
+        ensures faults_stay { S.faults sink.old ≤ S.faults sink.new }
+    {
+        let (begin, headers) = front.split_at(FIXED_LENGTH);
+        let mut fixed = [0; FIXED_LENGTH];
+        fixed.copy_from_slice(begin);
+        fixed[4] = (self.payload / 256) as u8;
+        fixed[5] = (self.payload % 256) as u8;
+        if self.place < FIXED_LENGTH {
+            fixed[self.place] = self.byte;
+            return put_both(sink, &fixed, headers);
+        }
+        let (before, behind) = headers.split_at(self.place - FIXED_LENGTH);
+        put_both(sink, &fixed, before)?;
+        put_both(sink, &[self.byte], &behind[1..])
+    }
+
+    /// The changed packet. The bytes are those of the plan.
+    pub fn apply(&self, alloc: Global, bytes: &[u8]) -> Result<Vec<u8>, AllocError>
+        requires { IsEditOf self.now bytes.now }
+        ensures { IfOk result (λ packet. packet.items ≡ edited self.now bytes.now) }
+    {
+        let (front, behind) = bytes.split_at(self.at);
+        let mut packet = Vec::with_capacity(alloc, bytes.len() + MOVED)?;
+        packet.extend_from_slice(front)?;
+        packet[4] = (self.payload / 256) as u8;
+        packet[5] = (self.payload % 256) as u8;
+        packet[self.place] = self.byte;
+        match &self.eight {
+            Some(eight) => {
+                packet.extend_from_slice(eight)?;
+                packet.extend_from_slice(behind)?;
+                Ok(packet)
+            }
+            None => {
+                packet.extend_from_slice(&behind[MOVED..])?;
+                Ok(packet)
+            }
+        }
+    }
+}
+
+// Appends these bytes, and then the others.
+fn put_both<S: Sink>(sink: &mut S, first: &[u8], second: &[u8]) -> Result<(), Fault>
+    ensures all { OnOk result (S.written sink.new
+        ≡ append_known (S.written sink.old) (first.now ++ second.now)) }
+    ensures front { OnErr result (AppendsFront
+        (S.written sink.old) (S.written sink.new) (first.now ++ second.now)) }
+    ensures failed { OnErr result (Rose (S.faults sink.old) (S.faults sink.new)) }
+    ensures faults_stay { S.faults sink.old ≤ S.faults sink.new }
+{
+    put(sink, first)?;
+    put(sink, second)
+}
