@@ -22,7 +22,7 @@ pub record StreamExcludes (stream : Stream) : Type 0 where
       → stream.refuses h ps p reason → stream.all_of h ((ps ++ p ∷ []) ++ more) text → ⊥
 
 -- two facts of one file are facts of the same bytes
-both-on-file :
+pub both-on-file :
     {R : Type 0} (t : Told) (name : List ℕ) (P Q : List ℕ → Type 0) → OnFile (Some t) name P → OnFile (Some t) name Q
     → ((bytes : List ℕ) → P bytes → Q bytes → R) → R
 both-on-file t name P Q p q f = let e : q.0 ≡ p.0 = cc (p.1, q.1) in f p.0 p.2 (subst Q e q.2)

@@ -1,28 +1,40 @@
 -- The words are one command; what the inputs of a command come to has one status. A command owes a case in each of these.
 use Rattle.std.proofs.Common.{refl, sym, ap, subst, ◌∙◌, ◌≡◌, ℕ, List, ◌∷◌, Option, Some, None, codes}
-use Rattle.std.specs.Prelude.{bytes_eq, cond}
+use Rattle.std.specs.Prelude.{Result, Ok, bytes_eq, cond}
 use Rattle.am_base.specs.Shelves.{Told}
 use Rattle.am_ip6.specs.declared.marks.Place.TheVariants.{HopByHop}
 use Rattle.am_cli.specs.Forms.{Kind, Command, SaysCommand, IsNoCommand, form}
-use Rattle.am_cli.specs.Forms.Kind.{Linking, Showing, Checking}
+use Rattle.am_cli.specs.Forms.Kind.{Linking, Showing, Checking, MarkingPackets, Stripping}
 use Rattle.am_cli.specs.Inputs.{JudgesCapture, JudgesDomain}
-use Rattle.am_cli.specs.Laws.{Laws}
+use Rattle.am_domain.specs.Domains.{DomainValue}
+use Rattle.am_cli.specs.Answers.{Reason}
+use Rattle.am_cli.specs.Chains.{Stream, Judged}
+use Rattle.am_cli.specs.Chains.Chain.{Streams}
+use Rattle.am_cli.specs.WordForms.{DomainFile, SaysDomainFile}
+use Rattle.am_cli.specs.Laws.{Laws, IsOne}
 use Rattle.am_cli.specs.commands.Link.{Link, SaysLinkWords}
 use Rattle.am_cli.specs.commands.Show.{record_lines}
-use Rattle.am_cli.proofs.EndingLemmas.{SameEnds, StreamExcludes, same-reads, same-prints, same-streams}
+use Rattle.am_cli.specs.commands.Mark.{marked_records}
+use Rattle.am_cli.specs.commands.Strip.{stripped_records}
+use Rattle.am_cli.proofs.EndingLemmas.{SameEnds, StreamExcludes, both-on-file, same-reads, same-prints, same-streams}
+use Rattle.am_cli.proofs.MarkLemmas.{marks-exclude}
 
 -- the command that a word names
 named : List ℕ → Option Kind
 named word =
     cond (bytes_eq word (codes "link")) (Some Linking)
     (cond (bytes_eq word (codes "show")) (Some Showing)
-    (cond (bytes_eq word (codes "check")) (Some Checking) None))
+    (cond (bytes_eq word (codes "check")) (Some Checking)
+    (cond (bytes_eq word (codes "mark")) (Some MarkingPackets)
+    (cond (bytes_eq word (codes "strip")) (Some Stripping) None))))
 
 verb-named : (k : Kind) → named (form k).verb ≡ Some k
 unfolding named
 verb-named Linking = refl
 verb-named Showing = refl
 verb-named Checking = refl
+verb-named MarkingPackets = refl
+verb-named Stripping = refl
 
 -- the words of `link` by their parts
 abbrev made : ℕ → ℕ → ℕ → List ℕ → List ℕ → Link
@@ -40,11 +52,37 @@ link-once words l k s t =
     ∙ ap (λ x. made k.block k.shift x l.up l.down) flow ∙ ap (λ x. made k.block k.shift k.flow x l.down) up
     ∙ ap (λ x. made k.block k.shift k.flow k.up x) down
 
+-- the words DOMAIN FILE by their parts
+abbrev named_so : List ℕ → List ℕ → DomainFile
+named_so domain file = record { domain = domain; file = file }
+
+domain-file-once : (words : List (List ℕ)) (a b : DomainFile) → SaysDomainFile words a → SaysDomainFile words b → a ≡ b
+domain-file-once words a b s t =
+    let same = sym s.spelled ∙ t.spelled in
+    let domain : a.domain ≡ b.domain = cc (same) in
+    let file : a.file ≡ b.file = cc (same) in
+    ap (λ x. named_so x a.file) domain ∙ ap (λ x. named_so b.domain x) file
+
 -- the words after the first say one thing
 once : (k : Kind) (words : List (List ℕ)) (a b : (form k).Asked) → (form k).says words a → (form k).says words b → a ≡ b
 once Linking words a b s t = link-once words a b s t
 once Showing words a b s t = let same : a.file ≡ b.file = cc (sym s.spelled ∙ t.spelled) in ap (λ f. record { file = f }) same
 once Checking words a b s t = let same : a.file ≡ b.file = cc (sym s.spelled ∙ t.spelled) in ap (λ f. record { file = f }) same
+once MarkingPackets words a b s t = domain-file-once words a b s t
+once Stripping words a b s t = domain-file-once words a b s t
+
+-- what is taken of one file twice is one thing
+both-judged :
+    {A : Type 0} (t : Told) (name : List ℕ) (judge : List ℕ → Result A Reason → Type 0) → IsOne judge
+    → (a b : A) → Judged (Some t) name judge (Ok a) → Judged (Some t) name judge (Ok b) → a ≡ b
+both-judged t name judge one a b p q = both-on-file t name (λ bytes. judge bytes (Ok a)) (λ bytes. judge bytes (Ok b)) p q (λ bytes x y. one.same bytes a b x y)
+
+-- one domain, and one stream by it
+same-rewritten :
+    (t : Told) (name : List ℕ) (stream : DomainValue → Stream) → Laws → (d e : DomainValue) → d ≡ e → StreamExcludes (stream d)
+    → SameEnds t (Streams name (stream d)) (Streams name (stream e))
+same-rewritten t name stream laws d e is x =
+    subst (λ b. SameEnds t (Streams name (stream d)) (Streams name (stream b))) is (same-streams t name (stream d) laws.capture x)
 
 -- two chains of one command come to one status
 pub settled : (t : Told) (k : Kind) (a : (form k).Asked) → Laws → SameEnds t ((form k).chain a) ((form k).chain a)
@@ -55,6 +93,13 @@ settled t Showing a laws =
     let x : StreamExcludes record_lines = record { never = λ h ps p more reason text refused all. refused } in
     same-streams t a.file record_lines laws.capture x
 settled t Checking a laws = same-reads t a.file JudgesDomain _ _ laws.domain (λ d e p q. same-prints t _ _)
+settled t MarkingPackets a laws =
+    same-reads t a.domain JudgesDomain _ _ laws.domain
+    (λ d e p q. same-rewritten t a.file marked_records laws d e (both-judged t a.domain JudgesDomain laws.one_domain d e p q) (marks-exclude d laws))
+settled t Stripping a laws =
+    same-reads t a.domain JudgesDomain _ _ laws.domain
+    (λ d e p q. same-rewritten t a.file stripped_records laws d e (both-judged t a.domain JudgesDomain laws.one_domain d e p q)
+    (record { never = λ h ps p more reason text refused all. refused }))
 
 -- what holds of one command that the words are holds of the other
 pub says-once : (P : Command → Type 0) (words : List (List ℕ)) (c d : Command) → SaysCommand words c → SaysCommand words d → P c → P d

@@ -9,3 +9,6 @@ pub mod InputLemmas
 pub mod StreamLemmas
 pub mod LinkLemmas
 pub mod WordLemmas
+pub mod RewriteLemmas
+pub mod MarkLemmas
+pub mod StripLemmas

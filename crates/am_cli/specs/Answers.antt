@@ -4,6 +4,8 @@ use Rattle.am_pcap.specs.declared.refusal.CapError.{CapError}
 use Rattle.am_pcap.specs.CaptureTexts.{capture_text}
 use Rattle.am_domain.specs.declared.error.DomainError.{DomainError}
 use Rattle.am_domain.specs.DomainTexts.{domain_text}
+use Rattle.am_insert.specs.declared.insert.InsertError.{InsertError}
+use Rattle.am_insert.specs.InsertTexts.{insert_text}
 
 -- why an input is refused
 pub data Reason : Type 0 where
@@ -15,6 +17,10 @@ pub data Reason : Type 0 where
   HeadersCut : (number : ℕ) → Reason
   -- its bytes are no domain file
   BadDomain : (error : DomainError) → Reason
+  -- no mark can be put into the packet of this record
+  NotInserted : (number : ℕ) (error : InsertError) → Reason
+  -- this record has no room for a mark
+  RecordFull : (number : ℕ) → Reason
 
 -- what the inputs of a command come to, where nothing fails
 pub data Ending : Type 0 where
@@ -56,6 +62,8 @@ reason_text TooLong = codes "too long"
 reason_text (BadCapture error) = capture_text error
 reason_text (HeadersCut number) = codes "headers of record " ++ decimal number ++ codes " are cut"
 reason_text (BadDomain error) = domain_text error
+reason_text (NotInserted number error) = codes "record " ++ decimal number ++ codes ": " ++ insert_text error
+reason_text (RecordFull number) = codes "record " ++ decimal number ++ codes ": record full"
 
 -- what stands before that: the file's name, and of a domain that was read whole the word `domain`
 abbrev pub subject : Option (List ℕ) → Reason → List ℕ

@@ -4,6 +4,9 @@ use Rattle.am_cli.specs.Chains.{Chain}
 use Rattle.am_cli.specs.commands.Link.{Link, SaysLinkWords, link_chain}
 use Rattle.am_cli.specs.commands.Show.{Show, SaysShowWords, show_chain}
 use Rattle.am_cli.specs.commands.Check.{Check, SaysCheckWords, check_chain}
+use Rattle.am_cli.specs.commands.Mark.{mark_chain}
+use Rattle.am_cli.specs.commands.Strip.{strip_chain}
+use Rattle.am_cli.specs.WordForms.{DomainFile, SaysDomainFile}
 
 -- the one record that every command states
 pub record Form : Type 1 where
@@ -20,11 +23,15 @@ pub data Kind : Type 0 where
   Linking : Kind
   Showing : Kind
   Checking : Kind
+  MarkingPackets : Kind
+  Stripping : Kind
 
 abbrev pub form : Kind → Form
 form Linking = record { verb = codes "link"; Asked = Link; says = SaysLinkWords; chain = link_chain }
 form Showing = record { verb = codes "show"; Asked = Show; says = SaysShowWords; chain = show_chain }
 form Checking = record { verb = codes "check"; Asked = Check; says = SaysCheckWords; chain = check_chain }
+form MarkingPackets = record { verb = codes "mark"; Asked = DomainFile; says = SaysDomainFile; chain = mark_chain }
+form Stripping = record { verb = codes "strip"; Asked = DomainFile; says = SaysDomainFile; chain = strip_chain }
 
 -- a command of the program, and what it is asked
 pub record Command : Type 0 where

@@ -11,6 +11,8 @@ pub mod Showing
 pub mod Printing
 pub mod Checking
 pub mod commands
+pub mod Rewriting
+pub mod Marking
 pub mod Forms
 pub mod Runs
 pub mod Shown

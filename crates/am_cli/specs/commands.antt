@@ -1,3 +1,5 @@
 pub mod Link
 pub mod Show
 pub mod Check
+pub mod Mark
+pub mod Strip

@@ -6,6 +6,7 @@ ghost use Rattle.am_cli.specs.Shown.{reason_shown, stop_shown, IsAnswered, file_
 
 use am_base::FileFault;
 use am_domain::DomainError;
+use am_insert::InsertError;
 use am_meter::MeterError;
 use am_pcap::{CapError, FileError};
 use std::alloc::{AllocError, Global};
@@ -22,6 +23,10 @@ pub enum Reason {
     HeadersCut { number: u64 },
     /// Its bytes are no domain file.
     BadDomain { error: DomainError },
+    /// No mark can be put into the packet of the record of this number.
+    NotInserted { number: u64, error: InsertError },
+    /// The record of this number has no room for a mark.
+    RecordFull { number: u64 },
 }
 
 /// Why a record of a capture isn't printed.
@@ -215,6 +220,8 @@ fn push_subject(line: &mut String, name: &Option<String>, reason: Reason) -> Res
         Reason::TooLong => push_name(line, name.as_str()),
         Reason::BadCapture { .. } => push_name(line, name.as_str()),
         Reason::HeadersCut { .. } => push_name(line, name.as_str()),
+        Reason::NotInserted { .. } => push_name(line, name.as_str()),
+        Reason::RecordFull { .. } => push_name(line, name.as_str()),
     }
 }
 
@@ -236,5 +243,7 @@ fn push_reason(line: &mut String, reason: Reason) -> Result<(), AllocError>
         Reason::BadCapture { error } => write!(line, "{error}"),
         Reason::HeadersCut { number } => write!(line, "headers of record {number} are cut"),
         Reason::BadDomain { error } => write!(line, "{error}"),
+        Reason::NotInserted { number, error } => write!(line, "record {number}: {error}"),
+        Reason::RecordFull { number } => write!(line, "record {number}: record full"),
     }
 }

@@ -9,9 +9,12 @@ ghost use Rattle.am_cli.specs.Shown.{command_shown, answer_of};
 
 mod check;
 mod link;
+mod mark;
 mod show;
+mod strip;
 
 use crate::answer::Stop;
+use crate::words::{DomainFileWords, domain_file_of};
 use am_base::{Shelf, Sink};
 use check::CheckWords;
 use link::LinkWords;
@@ -27,6 +30,10 @@ pub enum Command<'a> {
     Show(ShowWords<'a>),
     /// The summary of a domain.
     Check(CheckWords<'a>),
+    /// A capture with the marks of a domain's flows.
+    Mark(DomainFileWords<'a>),
+    /// A capture without them.
+    Strip(DomainFileWords<'a>),
 }
 
 /// The command that the words are; none where they are no command.
@@ -64,6 +71,18 @@ fn command_named<'a>(verb: &str, words: &'a [String]) -> Option<Command<'a>>
         };
         return Some(Command::Check(asked));
     }
+    if verb == "mark" {
+        let Some(asked) = domain_file_of(words) else {
+            return None;
+        };
+        return Some(Command::Mark(asked));
+    }
+    if verb == "strip" {
+        let Some(asked) = domain_file_of(words) else {
+            return None;
+        };
+        return Some(Command::Strip(asked));
+    }
     None
 }
 
@@ -84,5 +103,7 @@ pub fn perform<S: Shelf, O: Sink>(
         Command::Link(asked) => link::link(alloc, asked, shelf, out),
         Command::Show(asked) => show::show(alloc, asked, shelf, out),
         Command::Check(asked) => check::check(alloc, asked, shelf, out),
+        Command::Mark(asked) => mark::mark(alloc, asked, shelf, out),
+        Command::Strip(asked) => strip::strip(alloc, asked, shelf, out),
     }
 }

@@ -9,7 +9,9 @@ mod commands;
 mod counting;
 mod inputs;
 mod laws;
+mod piece;
 mod printing;
+mod rewriting;
 mod run;
 mod table;
 #[cfg(test)]

@@ -39,7 +39,8 @@ pub trait Printing {
         head: &Head,
         packet: &Record<'_>,
     ) -> Result<(), Unprinted>
-        requires { length packet.now.bytes.now ≤ most_captured }
+        requires known { (ps : List Packet) × knows self.now state.old head.now ps }
+        requires short { length packet.now.bytes.now ≤ most_captured }
         ensures more { OnOk result (AddsRecord (stream self.now)
             (knows self.now state.old) (knows self.now state.new)
             head.now packet.now.number (packet_shown packet.now) (piece self.now state.new)) }

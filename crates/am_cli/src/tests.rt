@@ -6,6 +6,7 @@ use std::process::Abort;
 
 mod check;
 mod link;
+mod mark;
 mod show;
 mod words;
 

@@ -5,7 +5,7 @@ use std::test::Fail;
 const CHECK: [&str; 2] = ["check", "two.toml"];
 
 // Two points and the link between them.
-const TWO: &str = "[timing]
+pub const TWO: &str = "[timing]
 block_ns = 10000000000
 skew_ns = 1000000
 delay_min_ns = 0

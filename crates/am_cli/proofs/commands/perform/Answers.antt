@@ -31,3 +31,21 @@ returns-in-Check g c =
     (output (g.O.Sink.written c.args.out.now) (g.O.Sink.faults c.args.out.now)) (output (g.O.Sink.written c.check.new.out) (g.O.Sink.faults c.check.new.out))
     (chain_of (command_shown x)) (answer_of c.check.result))
     (sym c.in-Check.is) c.check.ensures
+
+pub returns-in-Mark : goal.returns-in-Mark
+returns-in-Mark g c =
+    subst
+    (λ x. Performs (inputs (g.S.Shelf.told c.args.shelf.now) (g.S.Shelf.faults c.args.shelf.now) (g.S.Shelf.missed c.args.shelf.now))
+    (inputs (g.S.Shelf.told c.mark.new.shelf) (g.S.Shelf.faults c.mark.new.shelf) (g.S.Shelf.missed c.mark.new.shelf))
+    (output (g.O.Sink.written c.args.out.now) (g.O.Sink.faults c.args.out.now)) (output (g.O.Sink.written c.mark.new.out) (g.O.Sink.faults c.mark.new.out))
+    (chain_of (command_shown x)) (answer_of c.mark.result))
+    (sym c.in-Mark.is) c.mark.ensures
+
+pub returns-in-Strip : goal.returns-in-Strip
+returns-in-Strip g c =
+    subst
+    (λ x. Performs (inputs (g.S.Shelf.told c.args.shelf.now) (g.S.Shelf.faults c.args.shelf.now) (g.S.Shelf.missed c.args.shelf.now))
+    (inputs (g.S.Shelf.told c.strip.new.shelf) (g.S.Shelf.faults c.strip.new.shelf) (g.S.Shelf.missed c.strip.new.shelf))
+    (output (g.O.Sink.written c.args.out.now) (g.O.Sink.faults c.args.out.now)) (output (g.O.Sink.written c.strip.new.out) (g.O.Sink.faults c.strip.new.out))
+    (chain_of (command_shown x)) (answer_of c.strip.result))
+    (sym c.in-Strip.is) c.strip.ensures

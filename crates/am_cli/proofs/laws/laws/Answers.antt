@@ -12,4 +12,6 @@ returns c = record {
   };
   marks = λ place. record { never = λ bytes ms reason taken refused. c.marks_are_one.ensures.not_refused place bytes ms refused.0 taken refused.1 };
   domain = record { never = domain-excludes c.domain_law.ensures.either };
+  one_domain = record { same = λ bytes d e one other. c.domain_law.ensures.domain bytes d e one.1 other.1 };
+  frames = c.frames_are_one.ensures;
 }

@@ -202,5 +202,9 @@ take-requires g c =
     let s = c.records.invariant.0 in
     let gave = gave-record c.next.result c.in-Ok-Some.field-0 c.in-Ok-Some.record c.records.capture c.next.follows.lender-at-none
     now.told after.told c.in-Ok-Some.is c.in-Ok-Some.field-0-is c.next.follows.holds-at-none in
-    read-short first.told after.told name c.next.follows.lender-at-none c.head-head.result s.packets (packet_shown c.in-Ok-Some.record)
-    (gave.reads first.told name c.head-head.result s.packets s.on)
+    record {
+      known = (s.packets, c.records.invariant.1);
+      short =
+          read-short first.told after.told name c.next.follows.lender-at-none c.head-head.result s.packets (packet_shown c.in-Ok-Some.record)
+          (gave.reads first.told name c.head-head.result s.packets s.on);
+    }
