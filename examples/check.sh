@@ -119,6 +119,19 @@ expect_file 'show mixed/u.pcap' 0 u.txt '' show u.pcap
 expect_file 'show mixed/v.pcap' 0 v.txt '' show v.pcap
 cd -- "$here/two" || exit 1
 
+# The marks taken out of a capture, and put in again: the same bytes. A capture that has its marks is refused.
+"$altmark" strip two.toml u.pcap </dev/null >"$scratch/plain.pcap" 2>"$scratch/stderr"
+tally 'strip, the status' "$([[ $? == 0 && ! -s $scratch/stderr ]] && echo yes)"
+tally 'strip, the length' "$([[ $(wc -c <"$scratch/plain.pcap") == 360 ]] && echo yes)"
+expect_file 'mark gives back what strip took' 0 u.pcap '' mark two.toml "$scratch/plain.pcap"
+expect 'no mark is left' 0 "$head_line" '' link 10000000000 0 74565 "$scratch/plain.pcap" "$scratch/plain.pcap"
+expect_file 'strip of a capture without marks' 0 "$scratch/plain.pcap" '' strip two.toml "$scratch/plain.pcap"
+expect_file 'a capture that has its marks' 3 "$scratch/head.pcap" 'altmark: u.pcap: record 1: already marked at 42' mark two.toml u.pcap
+expect 'mark, a missing domain' 4 '' 'altmark: no.toml: missing' mark no.toml u.pcap
+expect 'mark, a missing capture' 4 '' 'altmark: no.pcap: missing' mark two.toml no.pcap
+refuses 'mark of one word' mark two.toml
+refuses 'strip of three' strip two.toml u.pcap u.pcap
+
 # Words that are no command.
 refuses 'no words'
 refuses 'an unknown command' lose 10000000000 0 74565 u.pcap v.pcap
@@ -154,7 +167,7 @@ refuses 'show, a name of 256 bytes' show "a$long"
 refuses 'show, a name with a line feed' show $'u\n.pcap'
 refuses 'show, a name with U+001F' show $'u\x1f.pcap'
 refuses 'show, a name with U+007F' show $'u\x7f.pcap'
-for words in check 'check two.toml two.toml' 'check 1 two.toml' 'Check two.toml' 'checks two.toml' 'two.toml check'; do
+for words in check 'check two.toml two.toml' 'check 1 two.toml' 'Check two.toml' 'checks two.toml' 'two.toml check' clusters 'clusters two.toml two.toml' 'cluster two.toml'; do
     read -ra split <<<"$words"
     refuses "'$words'" "${split[@]}"
 done
@@ -207,6 +220,19 @@ for file in *.toml; do
 done
 alone=$(for file in *; do echo "${file%.*}"; done | LC_ALL=C sort | uniq -c | awk '$1 != 2 { print $2 }')
 if [[ -z $alone ]]; then tally 'names of the domain files' yes; else tally 'names of the domain files' no "${alone//$'\n'/ }"; fi
+
+# The clusters of a domain's network. A domain file is refused by `clusters` as by `check`.
+expect 'clusters two.toml' 0 'cluster 0 links 0 starts a ends b' '' clusters ../two/two.toml
+expect_file 'clusters twelve.toml' 0 ../twelve/twelve.clusters '' clusters ../twelve/twelve.toml
+for file in *.line; do
+    expect "clusters domains/${file%.line}.toml" 3 '' "$(<"$file")" clusters "${file%.line}.toml"
+done
+expect 'clusters, missing' 4 '' 'altmark: missing.toml: missing' clusters missing.toml
+expect 'clusters, a folder' 5 '' 'altmark: ../two: read fault' clusters ../two
+if command -v dot >"$scratch/dot"; then
+    python3 "$here/picture.py" ../twelve/twelve.check ../twelve/twelve.clusters >"$scratch/network.dot"
+    if dot -Tsvg "$scratch/network.dot" >"$scratch/network.svg"; then tally 'picture of twelve.toml' yes; else tally 'picture of twelve.toml' no; fi
+fi
 
 # Files that aren't there, or can't be read.
 cd -- "$here/bad" || exit 1

@@ -4,7 +4,7 @@ use Rattle.std.specs.Prelude.{Result, Ok, bytes_eq, cond}
 use Rattle.am_base.specs.Shelves.{Told}
 use Rattle.am_ip6.specs.declared.marks.Place.TheVariants.{HopByHop}
 use Rattle.am_cli.specs.Forms.{Kind, Command, SaysCommand, IsNoCommand, form}
-use Rattle.am_cli.specs.Forms.Kind.{Linking, Showing, Checking, MarkingPackets, Stripping}
+use Rattle.am_cli.specs.Forms.Kind.{Linking, Showing, Checking, Clustering, MarkingPackets, Stripping}
 use Rattle.am_cli.specs.Inputs.{JudgesCapture, JudgesDomain}
 use Rattle.am_domain.specs.Domains.{DomainValue}
 use Rattle.am_cli.specs.Answers.{Reason}
@@ -25,14 +25,16 @@ named word =
     cond (bytes_eq word (codes "link")) (Some Linking)
     (cond (bytes_eq word (codes "show")) (Some Showing)
     (cond (bytes_eq word (codes "check")) (Some Checking)
+    (cond (bytes_eq word (codes "clusters")) (Some Clustering)
     (cond (bytes_eq word (codes "mark")) (Some MarkingPackets)
-    (cond (bytes_eq word (codes "strip")) (Some Stripping) None))))
+    (cond (bytes_eq word (codes "strip")) (Some Stripping) None)))))
 
 verb-named : (k : Kind) → named (form k).verb ≡ Some k
 unfolding named
 verb-named Linking = refl
 verb-named Showing = refl
 verb-named Checking = refl
+verb-named Clustering = refl
 verb-named MarkingPackets = refl
 verb-named Stripping = refl
 
@@ -68,6 +70,7 @@ once : (k : Kind) (words : List (List ℕ)) (a b : (form k).Asked) → (form k).
 once Linking words a b s t = link-once words a b s t
 once Showing words a b s t = let same : a.file ≡ b.file = cc (sym s.spelled ∙ t.spelled) in ap (λ f. record { file = f }) same
 once Checking words a b s t = let same : a.file ≡ b.file = cc (sym s.spelled ∙ t.spelled) in ap (λ f. record { file = f }) same
+once Clustering words a b s t = let same : a.file ≡ b.file = cc (sym s.spelled ∙ t.spelled) in ap (λ f. record { file = f }) same
 once MarkingPackets words a b s t = domain-file-once words a b s t
 once Stripping words a b s t = domain-file-once words a b s t
 
@@ -93,6 +96,7 @@ settled t Showing a laws =
     let x : StreamExcludes record_lines = record { never = λ h ps p more reason text refused all. refused } in
     same-streams t a.file record_lines laws.capture x
 settled t Checking a laws = same-reads t a.file JudgesDomain _ _ laws.domain (λ d e p q. same-prints t _ _)
+settled t Clustering a laws = same-reads t a.file JudgesDomain _ _ laws.domain (λ d e p q. same-prints t _ _)
 settled t MarkingPackets a laws =
     same-reads t a.domain JudgesDomain _ _ laws.domain
     (λ d e p q. same-rewritten t a.file marked_records laws d e (both-judged t a.domain JudgesDomain laws.one_domain d e p q) (marks-exclude d laws))

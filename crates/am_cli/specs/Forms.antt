@@ -4,6 +4,7 @@ use Rattle.am_cli.specs.Chains.{Chain}
 use Rattle.am_cli.specs.commands.Link.{Link, SaysLinkWords, link_chain}
 use Rattle.am_cli.specs.commands.Show.{Show, SaysShowWords, show_chain}
 use Rattle.am_cli.specs.commands.Check.{Check, SaysCheckWords, check_chain}
+use Rattle.am_cli.specs.commands.Clusters.{Clusters, SaysClustersWords, clusters_chain}
 use Rattle.am_cli.specs.commands.Mark.{mark_chain}
 use Rattle.am_cli.specs.commands.Strip.{strip_chain}
 use Rattle.am_cli.specs.WordForms.{DomainFile, SaysDomainFile}
@@ -23,6 +24,7 @@ pub data Kind : Type 0 where
   Linking : Kind
   Showing : Kind
   Checking : Kind
+  Clustering : Kind
   MarkingPackets : Kind
   Stripping : Kind
 
@@ -30,6 +32,7 @@ abbrev pub form : Kind → Form
 form Linking = record { verb = codes "link"; Asked = Link; says = SaysLinkWords; chain = link_chain }
 form Showing = record { verb = codes "show"; Asked = Show; says = SaysShowWords; chain = show_chain }
 form Checking = record { verb = codes "check"; Asked = Check; says = SaysCheckWords; chain = check_chain }
+form Clustering = record { verb = codes "clusters"; Asked = Clusters; says = SaysClustersWords; chain = clusters_chain }
 form MarkingPackets = record { verb = codes "mark"; Asked = DomainFile; says = SaysDomainFile; chain = mark_chain }
 form Stripping = record { verb = codes "strip"; Asked = DomainFile; says = SaysDomainFile; chain = strip_chain }
 

@@ -15,6 +15,7 @@ use Rattle.am_cli.specs.Forms as form
 use Rattle.am_cli.specs.commands.Link as link
 use Rattle.am_cli.specs.commands.Show as show
 use Rattle.am_cli.specs.commands.Check as check
+use Rattle.am_cli.specs.commands.Clusters as clusters
 use Rattle.am_cli.specs.declared.answer.Reason.{Reason}
 use Rattle.am_cli.specs.declared.answer.Reason.TheVariants.{TooLong, BadCapture, HeadersCut, BadDomain, NotInserted, RecordFull}
 use Rattle.am_cli.specs.declared.answer.Stop.{Stop}
@@ -24,10 +25,11 @@ use Rattle.am_cli.specs.declared.answer.Stop.TheVariants.{NoCommand, Missing, Re
 use Rattle.am_cli.specs.declared.commands.link.LinkWords.{LinkWords}
 use Rattle.am_cli.specs.declared.commands.show.ShowWords.{ShowWords}
 use Rattle.am_cli.specs.declared.commands.check.CheckWords.{CheckWords}
+use Rattle.am_cli.specs.declared.commands.clusters.ClustersWords.{ClustersWords}
 use Rattle.am_cli.specs.declared.words.DomainFileWords.{DomainFileWords}
 use Rattle.am_cli.specs.WordForms as form_of_words
 use Rattle.am_cli.specs.declared.commands.Command.{Command}
-use Rattle.am_cli.specs.declared.commands.Command.TheVariants.{Link as LinkCommand, Show as ShowCommand, Check as CheckCommand, Mark as MarkCommand, Strip as StripCommand}
+use Rattle.am_cli.specs.declared.commands.Command.TheVariants.{Link as LinkCommand, Show as ShowCommand, Check as CheckCommand, Clusters as ClustersCommand, Mark as MarkCommand, Strip as StripCommand}
 
 -- what a `LinkWords` says
 abbrev pub link_shown : LinkWords → link.Link
@@ -47,6 +49,10 @@ show_shown w = record { file = w.file.now }
 abbrev pub check_shown : CheckWords → check.Check
 check_shown w = record { file = w.file.now }
 
+-- what a `ClustersWords` says
+abbrev pub clusters_shown : ClustersWords → clusters.Clusters
+clusters_shown w = record { file = w.file.now }
+
 -- what a `DomainFileWords` says
 abbrev pub domain_file_shown : DomainFileWords → form_of_words.DomainFile
 domain_file_shown w = record { domain = w.domain.now; file = w.file.now }
@@ -56,6 +62,7 @@ abbrev pub command_shown : Command → form.Command
 command_shown (LinkCommand w) = record { kind = form.Kind.Linking; asked = link_shown w }
 command_shown (ShowCommand w) = record { kind = form.Kind.Showing; asked = show_shown w }
 command_shown (CheckCommand w) = record { kind = form.Kind.Checking; asked = check_shown w }
+command_shown (ClustersCommand w) = record { kind = form.Kind.Clustering; asked = clusters_shown w }
 command_shown (MarkCommand w) = record { kind = form.Kind.MarkingPackets; asked = domain_file_shown w }
 command_shown (StripCommand w) = record { kind = form.Kind.Stripping; asked = domain_file_shown w }
 

@@ -1,5 +1,6 @@
 pub mod Link
 pub mod Show
 pub mod Check
+pub mod Clusters
 pub mod Mark
 pub mod Strip

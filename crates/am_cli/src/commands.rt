@@ -8,6 +8,7 @@ ghost use Rattle.am_cli.specs.Forms.{SaysCommand, IsNoCommand, chain_of};
 ghost use Rattle.am_cli.specs.Shown.{command_shown, answer_of};
 
 mod check;
+mod clusters;
 mod link;
 mod mark;
 mod show;
@@ -17,6 +18,7 @@ use crate::answer::Stop;
 use crate::words::{DomainFileWords, domain_file_of};
 use am_base::{Shelf, Sink};
 use check::CheckWords;
+use clusters::ClustersWords;
 use link::LinkWords;
 use show::ShowWords;
 use std::alloc::Global;
@@ -30,6 +32,8 @@ pub enum Command<'a> {
     Show(ShowWords<'a>),
     /// The summary of a domain.
     Check(CheckWords<'a>),
+    /// The clusters of a domain's network.
+    Clusters(ClustersWords<'a>),
     /// A capture with the marks of a domain's flows.
     Mark(DomainFileWords<'a>),
     /// A capture without them.
@@ -71,6 +75,12 @@ fn command_named<'a>(verb: &str, words: &'a [String]) -> Option<Command<'a>>
         };
         return Some(Command::Check(asked));
     }
+    if verb == "clusters" {
+        let Some(asked) = clusters::words_of(words) else {
+            return None;
+        };
+        return Some(Command::Clusters(asked));
+    }
     if verb == "mark" {
         let Some(asked) = domain_file_of(words) else {
             return None;
@@ -103,6 +113,7 @@ pub fn perform<S: Shelf, O: Sink>(
         Command::Link(asked) => link::link(alloc, asked, shelf, out),
         Command::Show(asked) => show::show(alloc, asked, shelf, out),
         Command::Check(asked) => check::check(alloc, asked, shelf, out),
+        Command::Clusters(asked) => clusters::clusters(alloc, asked, shelf, out),
         Command::Mark(asked) => mark::mark(alloc, asked, shelf, out),
         Command::Strip(asked) => strip::strip(alloc, asked, shelf, out),
     }

@@ -5,6 +5,7 @@ use std::alloc::{AllocError, Global};
 use std::process::Abort;
 
 mod check;
+mod clusters;
 mod link;
 mod mark;
 mod show;

@@ -182,8 +182,8 @@ fn push_link(text: &mut String, nodes: &[Node], link: Edge) -> Result<(), AllocE
     text.push_str("\n")
 }
 
-// The name of the node of this number; none where there is no such node.
-fn name_at(nodes: &[Node], number: u32) -> &str
+/// The name of the node of this number; none where there is no such node.
+pub fn name_at(nodes: &[Node], number: u32) -> &str
     ensures { result.now ≡ name_of nodes.now number }
 {
     match nodes.get(number as usize) {

@@ -7,7 +7,7 @@ const USAGE: Wanted<'static> = (2, "", "altmark: usage\n");
 #[test]
 fn knows_no_other_commands(rt: HostRuntime) -> Result<(), Fail> {
     let alloc = rt.alloc();
-    let rows: [&[&str]; 21] = [
+    let rows: [&[&str]; 23] = [
         &[],
         &["audit"],
         &["Link", "10", "0", "1", "a", "b"],
@@ -29,6 +29,8 @@ fn knows_no_other_commands(rt: HostRuntime) -> Result<(), Fail> {
         &["show", ""],
         &["check"],
         &["check", "a\n"],
+        &["clusters"],
+        &["clusters", "a", "b"],
     ];
     for words in rows {
         let files = files(alloc, &[("a", &HEAD), ("b", &HEAD)])?;

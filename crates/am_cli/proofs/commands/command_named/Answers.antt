@@ -1,5 +1,5 @@
 use Rattle.std.proofs.Common.{◌≡◌, rules, codes}
-use Rattle.am_cli.specs.Forms.Kind.{Linking, Showing, Checking, MarkingPackets, Stripping}
+use Rattle.am_cli.specs.Forms.Kind.{Linking, Showing, Checking, Clustering, MarkingPackets, Stripping}
 use Rattle.am_cli.proofs.FormLemmas.{none-named}
 use Rattle.am_cli.proofs.commands.command_named.Goals as goal
 
@@ -14,6 +14,10 @@ returns-in_default-words_of-clause-none c =
 pub returns-in_default-words_of-2-clause-none : goal.returns-in_default-words_of-2-clause-none
 returns-in_default-words_of-2-clause-none c =
     let verb : c.args.verb.now ≡ codes "check" = search rules in none-named Checking c.args.verb.now _ verb c.in_default-words_of-2.ensures.none
+
+pub returns-in_default-words_of-3-clause-none : goal.returns-in_default-words_of-3-clause-none
+returns-in_default-words_of-3-clause-none c =
+    let verb : c.args.verb.now ≡ codes "clusters" = search rules in none-named Clustering c.args.verb.now _ verb c.in_default-words_of-3.ensures.none
 
 pub returns-in_default-domain_file_of-clause-none : goal.returns-in_default-domain_file_of-clause-none
 returns-in_default-domain_file_of-clause-none c =

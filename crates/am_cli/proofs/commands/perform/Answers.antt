@@ -32,6 +32,15 @@ returns-in-Check g c =
     (chain_of (command_shown x)) (answer_of c.check.result))
     (sym c.in-Check.is) c.check.ensures
 
+pub returns-in-Clusters : goal.returns-in-Clusters
+returns-in-Clusters g c =
+    subst
+    (λ x. Performs (inputs (g.S.Shelf.told c.args.shelf.now) (g.S.Shelf.faults c.args.shelf.now) (g.S.Shelf.missed c.args.shelf.now))
+    (inputs (g.S.Shelf.told c.clusters.new.shelf) (g.S.Shelf.faults c.clusters.new.shelf) (g.S.Shelf.missed c.clusters.new.shelf))
+    (output (g.O.Sink.written c.args.out.now) (g.O.Sink.faults c.args.out.now)) (output (g.O.Sink.written c.clusters.new.out) (g.O.Sink.faults c.clusters.new.out))
+    (chain_of (command_shown x)) (answer_of c.clusters.result))
+    (sym c.in-Clusters.is) c.clusters.ensures
+
 pub returns-in-Mark : goal.returns-in-Mark
 returns-in-Mark g c =
     subst

@@ -1,0 +1,4 @@
+pub mod Lists
+pub mod Graphs
+pub mod Clusters
+pub mod Walks
