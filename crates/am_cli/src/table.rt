@@ -75,7 +75,8 @@ impl Table {
         requires counted { IsCounted self.old }
         requires fits { tally self.old side block + 1 < 2 ^ 64 }
         ensures counted { OnOk result (IsCounted self.new) }
-        ensures here { OnOk result ((b : ℕ) → tally self.new side b ≡ tally self.old side b + one_at block b) }
+        ensures here { OnOk result ((b : ℕ) →
+            tally self.new side b ≡ tally self.old side b + one_at block b) }
         ensures there { OnOk result
             ((b : ℕ) → tally self.new (other side) b ≡ tally self.old (other side) b) }
     {
@@ -92,7 +93,8 @@ impl Table {
         requires { IsCounted self.old }
         ensures counted { OnOk result (IsCounted self.new) }
         ensures block { OnOk result (self.new.block ≡ block) }
-        ensures same { OnOk result ((side : Side) (b : ℕ) → tally self.new side b ≡ tally self.old side b) }
+        ensures same { OnOk result ((side : Side) (b : ℕ) →
+            tally self.new side b ≡ tally self.old side b) }
     {
         if self.block == block {
             return Ok(());
@@ -107,7 +109,8 @@ impl Table {
         requires { IsCounted self.old }
         ensures counted { OnOk result (IsCounted self.new) }
         ensures block { OnOk result (self.new.block ≡ block) }
-        ensures same { OnOk result ((side : Side) (b : ℕ) → tally self.new side b ≡ tally self.old side b) }
+        ensures same { OnOk result ((side : Side) (b : ℕ) →
+            tally self.new side b ≡ tally self.old side b) }
     {
         self.settle()?;
         self.here = match self.counts.get(&block) {
@@ -122,7 +125,8 @@ impl Table {
     fn settle(&mut self) -> Result<(), AllocError>
         requires { IsCounted self.old }
         ensures settled { OnOk result (IsSettled self.new) }
-        ensures same { OnOk result ((side : Side) (b : ℕ) → settled self.new side b ≡ tally self.old side b) }
+        ensures same { OnOk result ((side : Side) (b : ℕ) →
+            settled self.new side b ≡ tally self.old side b) }
         ensures block { self.new.block ≡ self.old.block }
         ensures here { self.new.here ≡ self.old.here }
     {
@@ -147,8 +151,8 @@ impl Table {
     // The text of the table of the map.
     fn lines(&self, alloc: Global) -> Result<String, AllocError>
         requires { IsSettled self.now }
-        ensures table { IfOk result (λ text. IsTable (settled self.now Entered) (settled self.now Left)
-            (rows_of self.now)) }
+        ensures table { IfOk result (λ text. IsTable
+            (settled self.now Entered) (settled self.now Left) (rows_of self.now)) }
         ensures text { IfOk result (λ text. string_bytes text ≡ table_text (rows_of self.now)) }
     {
         let room = self.counts.len().saturating_mul(LINE_SIZE);
