@@ -72,7 +72,7 @@ fi
 # The files are those that the script beside them writes, but for the domain files and what `check` prints of them.
 python3 "$here/make.py" "$scratch/made"
 (cd -- "$scratch/made" && find . -type f | LC_ALL=C sort) >"$scratch/made.list"
-(cd -- "$here" && find ./two ./chains ./forms ./mixed ./bad -type f ! -name README.md ! -name '*.toml' ! -name '*.check' | LC_ALL=C sort) >"$scratch/kept.list"
+(cd -- "$here" && find ./two ./chains ./forms ./mixed ./mark ./bad -type f ! -name README.md ! -name '*.toml' ! -name '*.check' ! -name '*.sh' | LC_ALL=C sort) >"$scratch/kept.list"
 if cmp -s "$scratch/made.list" "$scratch/kept.list"; then tally 'names of the example files' yes; else tally 'names of the example files' no; fi
 while IFS= read -r name; do
     if cmp -s -- "$scratch/made/$name" "$here/$name"; then tally "bytes of $name" yes; else tally "bytes of $name" no; fi
@@ -131,6 +131,12 @@ expect 'mark, a missing domain' 4 '' 'altmark: no.toml: missing' mark no.toml u.
 expect 'mark, a missing capture' 4 '' 'altmark: no.pcap: missing' mark two.toml no.pcap
 refuses 'mark of one word' mark two.toml
 refuses 'strip of three' strip two.toml u.pcap u.pcap
+
+# Traffic of several kinds: each packet of a flow gets its mark, in the form that its headers want, and loses it again.
+cd -- "$here/mark" || exit 1
+expect_file 'mark, several kinds of traffic' 0 marked.pcap '' mark net.toml plain.pcap
+expect_file 'strip, several kinds of traffic' 0 plain.pcap '' strip net.toml marked.pcap
+cd -- "$here/two" || exit 1
 
 # Words that are no command.
 refuses 'no words'

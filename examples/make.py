@@ -1,6 +1,6 @@
 #!/usr/bin/env python3
-"""Writes the example captures, each with what the program says of it beside it: those of two/, chains/, forms/, mixed/
-and bad/.
+"""Writes the example captures, each with what the program says of it beside it: those of two/, chains/, forms/, mixed/,
+mark/ and bad/.
 
     make.py [FOLDER]
 
@@ -11,6 +11,8 @@ each packet, and comes from the rules of docs/formats.md; the program plays no p
 import os
 import struct
 import sys
+
+import insertion
 
 # A file header: magic of microseconds, version 2.4, zone, accuracy, snapshot length 262144, link type 101 (raw IP).
 HEAD = bytes.fromhex("d4c3b2a1 02000400 00000000 00000000 00000400 65000000")
@@ -406,6 +408,9 @@ def files():
     for name, capture, shown in mixed():
         yield f"mixed/{name}.pcap", capture
         yield f"mixed/{name}.txt", shown.encode()
+    plain, with_marks = insertion.captures(file_head("little", "micro", "ethernet"), record)
+    yield "mark/plain.pcap", plain
+    yield "mark/marked.pcap", with_marks
     for name, bytes_, refused, shown in bad():
         yield f"bad/{name}.pcap", bytes_
         yield f"bad/{name}.line", refused.encode()
