@@ -4,19 +4,23 @@ use Rattle.std.specs.Prelude.{Result, Ok, bytes_eq, cond}
 use Rattle.am_base.specs.Shelves.{Told}
 use Rattle.am_ip6.specs.declared.marks.Place.TheVariants.{HopByHop}
 use Rattle.am_cli.specs.Forms.{Kind, Command, SaysCommand, IsNoCommand, form}
-use Rattle.am_cli.specs.Forms.Kind.{Linking, Showing, Checking, Clustering, MarkingPackets, Stripping}
+use Rattle.am_cli.specs.Forms.Kind.{Linking, Showing, Checking, Clustering, MarkingPackets, Stripping, Metering}
 use Rattle.am_cli.specs.Inputs.{JudgesCapture, JudgesDomain}
 use Rattle.am_domain.specs.Domains.{DomainValue}
 use Rattle.am_cli.specs.Answers.{Reason}
-use Rattle.am_cli.specs.Chains.{Stream, Judged}
-use Rattle.am_cli.specs.Chains.Chain.{Streams}
+use Rattle.am_cli.specs.Answers.Reason.{UnknownNode}
+use Rattle.am_cli.specs.Chains.{Stream, Chain, Judged}
+use Rattle.am_cli.specs.Chains.Chain.{Reads, Streams}
+use Rattle.am_cli.specs.NodeWords.{at_node, node_named}
+use Rattle.am_meter.specs.MeteredFiles.{capture_of}
 use Rattle.am_cli.specs.WordForms.{DomainFile, SaysDomainFile}
 use Rattle.am_cli.specs.Laws.{Laws, IsOne}
 use Rattle.am_cli.specs.commands.Link.{Link, SaysLinkWords}
 use Rattle.am_cli.specs.commands.Show.{record_lines}
+use Rattle.am_cli.specs.commands.Meter.{Meter, SaysMeterWords, report_chain}
 use Rattle.am_cli.specs.commands.Mark.{marked_records}
 use Rattle.am_cli.specs.commands.Strip.{stripped_records}
-use Rattle.am_cli.proofs.EndingLemmas.{SameEnds, StreamExcludes, both-on-file, same-reads, same-prints, same-streams}
+use Rattle.am_cli.proofs.EndingLemmas.{SameEnds, StreamExcludes, both-on-file, same-reads, same-prints, same-refuses, same-streams}
 use Rattle.am_cli.proofs.MarkLemmas.{marks-exclude}
 
 -- the command that a word names
@@ -27,7 +31,8 @@ named word =
     (cond (bytes_eq word (codes "check")) (Some Checking)
     (cond (bytes_eq word (codes "clusters")) (Some Clustering)
     (cond (bytes_eq word (codes "mark")) (Some MarkingPackets)
-    (cond (bytes_eq word (codes "strip")) (Some Stripping) None)))))
+    (cond (bytes_eq word (codes "strip")) (Some Stripping)
+    (cond (bytes_eq word (codes "meter")) (Some Metering) None))))))
 
 verb-named : (k : Kind) → named (form k).verb ≡ Some k
 unfolding named
@@ -37,6 +42,7 @@ verb-named Checking = refl
 verb-named Clustering = refl
 verb-named MarkingPackets = refl
 verb-named Stripping = refl
+verb-named Metering = refl
 
 -- the words of `link` by their parts
 abbrev made : ℕ → ℕ → ℕ → List ℕ → List ℕ → Link
@@ -65,6 +71,17 @@ domain-file-once words a b s t =
     let file : a.file ≡ b.file = cc (same) in
     ap (λ x. named_so x a.file) domain ∙ ap (λ x. named_so b.domain x) file
 
+-- the words DOMAIN NODE by their parts
+abbrev asked_so : List ℕ → List ℕ → Meter
+asked_so domain node = record { domain = domain; node = node }
+
+meter-once : (words : List (List ℕ)) (a b : Meter) → SaysMeterWords words a → SaysMeterWords words b → a ≡ b
+meter-once words a b s t =
+    let same = sym s.spelled ∙ t.spelled in
+    let domain : a.domain ≡ b.domain = cc (same) in
+    let node : a.node ≡ b.node = cc (same) in
+    ap (λ x. asked_so x a.node) domain ∙ ap (λ x. asked_so b.domain x) node
+
 -- the words after the first say one thing
 once : (k : Kind) (words : List (List ℕ)) (a b : (form k).Asked) → (form k).says words a → (form k).says words b → a ≡ b
 once Linking words a b s t = link-once words a b s t
@@ -73,6 +90,7 @@ once Checking words a b s t = let same : a.file ≡ b.file = cc (sym s.spelled �
 once Clustering words a b s t = let same : a.file ≡ b.file = cc (sym s.spelled ∙ t.spelled) in ap (λ f. record { file = f }) same
 once MarkingPackets words a b s t = domain-file-once words a b s t
 once Stripping words a b s t = domain-file-once words a b s t
+once Metering words a b s t = meter-once words a b s t
 
 -- what is taken of one file twice is one thing
 both-judged :
@@ -86,6 +104,23 @@ same-rewritten :
     → SameEnds t (Streams name (stream d)) (Streams name (stream e))
 same-rewritten t name stream laws d e is x =
     subst (λ b. SameEnds t (Streams name (stream d)) (Streams name (stream b))) is (same-streams t name (stream d) laws.capture x)
+
+-- what comes after one domain, where it comes to one status for each
+same-for-one :
+    (t : Told) (name : List ℕ) (next : DomainValue → Chain) → Laws → ((d : DomainValue) → SameEnds t (next d) (next d))
+    → SameEnds t (Reads DomainValue name JudgesDomain next) (Reads DomainValue name JudgesDomain next)
+same-for-one t name next laws each =
+    same-reads t name JudgesDomain next next laws.domain
+    (λ d e p q. subst (λ b. SameEnds t (next d) (next b)) (both-judged t name JudgesDomain laws.one_domain d e p q) (each d))
+
+same-at-node :
+    (t : Told) (node : Option ℕ) (next : ℕ → Chain) → ((n : ℕ) → SameEnds t (next n) (next n)) → SameEnds t (at_node node next) (at_node node next)
+same-at-node t None next each = same-refuses t None None UnknownNode UnknownNode
+same-at-node t (Some n) next each = each n
+
+same-reported : (t : Told) (d : DomainValue) (node : ℕ) → Laws → SameEnds t (report_chain d node) (report_chain d node)
+same-reported t d node laws =
+    same-reads t (capture_of d node) (JudgesCapture d.kind) _ _ (laws.marks d.kind) (λ ms ns p q. same-prints t _ _)
 
 -- two chains of one command come to one status
 pub settled : (t : Told) (k : Kind) (a : (form k).Asked) → Laws → SameEnds t ((form k).chain a) ((form k).chain a)
@@ -104,6 +139,8 @@ settled t Stripping a laws =
     same-reads t a.domain JudgesDomain _ _ laws.domain
     (λ d e p q. same-rewritten t a.file stripped_records laws d e (both-judged t a.domain JudgesDomain laws.one_domain d e p q)
     (record { never = λ h ps p more reason text refused all. refused }))
+settled t Metering a laws =
+    same-for-one t a.domain _ laws (λ d. same-at-node t (node_named d a.node) (report_chain d) (λ node. same-reported t d node laws))
 
 -- what holds of one command that the words are holds of the other
 pub says-once : (P : Command → Type 0) (words : List (List ℕ)) (c d : Command) → SaysCommand words c → SaysCommand words d → P c → P d

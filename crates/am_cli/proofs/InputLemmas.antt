@@ -10,7 +10,9 @@ use Rattle.am_pcap.specs.Packets.{Packet}
 use Rattle.am_pcap.specs.CaptureFiles.{Begins, BeginsWith, IsWholeCapture}
 use Rattle.am_pcap.specs.declared.head.Head.{Head}
 use Rattle.am_pcap.specs.declared.capture.FileError.TheVariants as file
-use Rattle.am_meter.specs.Marks.{MarksRefusal, RefusesMarks}
+use Rattle.am_ip6.specs.declared.marks.Place.{Place}
+use Rattle.am_meter.specs.MeteredFiles.{WhyNoCells, capture_of}
+use Rattle.am_meter.specs.Marks.{MarksRefusal, RefusesMarks, JudgesMarks}
 use Rattle.am_meter.specs.Marks.MarksRefusal.{Long, BadCapture as RefusedMarks, HeadersCut as CutMarks}
 use Rattle.am_meter.specs.Streaming.{Streaming}
 use Rattle.am_meter.specs.Streams.{StreamsOn, EndsStream, StopsStream, WhyStreamStopped, WhyNotStreamed}
@@ -149,3 +151,37 @@ stream-taken before now after name s ms on ends faults missed faults_stay missed
       e.0,
       record { kept = e.2; faults = omega (arith, faults, faults_stay); missed = omega (arith, missed, missed_stay); at_end = e.1 },
     )
+
+-- a capture that is refused, whatever kind of header marks are looked for in, ends the command
+capture-refused :
+    (told : Option Told) (name : List ℕ) (place : Place) (e : MarksRefusal)
+    → OnFile told name (λ bytes. JudgesMarks place bytes (Err e)) → Judged told name (JudgesCapture place) (Err (marks_reason e))
+capture-refused told name place e h =
+    on-file-more told name (λ bytes. JudgesMarks place bytes (Err e)) (λ bytes. JudgesCapture place bytes (Err (marks_reason e)))
+    (λ bytes x. (e, x, refl)) h
+
+no-cells :
+    (before after : Inputs) (d : DomainValue) (node : ℕ) (e : MeterError) → WhyNoCells d node before.told e
+    → (e ≡ meter.File file.Missing → Rose before.missed after.missed)
+    → (e ≡ meter.File file.ReadFault → Rose before.faults after.faults)
+    → StopsHere before after (capture_of d node) (JudgesCapture d.kind) (stream_answer (capture_of d node) e)
+no-cells before after d node (meter.File file.Missing) why missing failed = ((refl, why), missing refl)
+no-cells before after d node (meter.File file.ReadFault) why missing failed = (refl, failed refl)
+no-cells before after d node (meter.File file.TooLong) why missing failed = (refl, capture-refused before.told (capture_of d node) d.kind Long why)
+no-cells before after d node (meter.File (file.Bad error)) why missing failed =
+    (refl, capture-refused before.told (capture_of d node) d.kind (RefusedMarks error) why)
+no-cells before after d node (meter.File file.Memory) why missing failed = tt
+no-cells before after d node (meter.HeadersCut number) why missing failed =
+    (refl, capture-refused before.told (capture_of d node) d.kind (CutMarks number) why)
+
+-- why a node has no cells is a stop at its capture
+pub no-cells-stops :
+    (before after : Inputs) (d : DomainValue) (node : ℕ) (name : List ℕ) (e : MeterError) (answer : Answer)
+    → name ≡ capture_of d node → WhyNoCells d node before.told e
+    → (e ≡ meter.File file.Missing → Rose before.missed after.missed)
+    → (e ≡ meter.File file.ReadFault → Rose before.faults after.faults)
+    → IsAnswered (stream_answer name e) answer
+    → StopsHere before after (capture_of d node) (JudgesCapture d.kind) answer
+no-cells-stops before after d node name e answer same why missing failed is =
+    stop-answer before after (capture_of d node) (JudgesCapture d.kind) (stream_answer (capture_of d node) e) answer
+    (no-cells before after d node e why missing failed) (subst (λ n. IsAnswered (stream_answer n e) answer) same is)

@@ -21,6 +21,8 @@ pub data Reason : Type 0 where
   NotInserted : (number : ℕ) (error : InsertError) → Reason
   -- this record has no room for a mark
   RecordFull : (number : ℕ) → Reason
+  -- the domain has no node of the name that was asked for
+  UnknownNode : Reason
 
 -- what the inputs of a command come to, where nothing fails
 pub data Ending : Type 0 where
@@ -64,6 +66,7 @@ reason_text (HeadersCut number) = codes "headers of record " ++ decimal number +
 reason_text (BadDomain error) = domain_text error
 reason_text (NotInserted number error) = codes "record " ++ decimal number ++ codes ": " ++ insert_text error
 reason_text (RecordFull number) = codes "record " ++ decimal number ++ codes ": record full"
+reason_text UnknownNode = codes "unknown node"
 
 -- what stands before that: the file's name, and of a domain that was read whole the word `domain`
 abbrev pub subject : Option (List ℕ) → Reason → List ℕ

@@ -5,6 +5,7 @@ use Rattle.am_cli.specs.commands.Link.{Link, SaysLinkWords, link_chain}
 use Rattle.am_cli.specs.commands.Show.{Show, SaysShowWords, show_chain}
 use Rattle.am_cli.specs.commands.Check.{Check, SaysCheckWords, check_chain}
 use Rattle.am_cli.specs.commands.Clusters.{Clusters, SaysClustersWords, clusters_chain}
+use Rattle.am_cli.specs.commands.Meter.{Meter, SaysMeterWords, meter_chain}
 use Rattle.am_cli.specs.commands.Mark.{mark_chain}
 use Rattle.am_cli.specs.commands.Strip.{strip_chain}
 use Rattle.am_cli.specs.WordForms.{DomainFile, SaysDomainFile}
@@ -27,6 +28,7 @@ pub data Kind : Type 0 where
   Clustering : Kind
   MarkingPackets : Kind
   Stripping : Kind
+  Metering : Kind
 
 abbrev pub form : Kind → Form
 form Linking = record { verb = codes "link"; Asked = Link; says = SaysLinkWords; chain = link_chain }
@@ -35,6 +37,7 @@ form Checking = record { verb = codes "check"; Asked = Check; says = SaysCheckWo
 form Clustering = record { verb = codes "clusters"; Asked = Clusters; says = SaysClustersWords; chain = clusters_chain }
 form MarkingPackets = record { verb = codes "mark"; Asked = DomainFile; says = SaysDomainFile; chain = mark_chain }
 form Stripping = record { verb = codes "strip"; Asked = DomainFile; says = SaysDomainFile; chain = strip_chain }
+form Metering = record { verb = codes "meter"; Asked = Meter; says = SaysMeterWords; chain = meter_chain }
 
 -- a command of the program, and what it is asked
 pub record Command : Type 0 where

@@ -10,6 +10,7 @@ pub mod Lines
 pub mod Showing
 pub mod Printing
 pub mod Checking
+pub mod NodeWords
 pub mod commands
 pub mod Rewriting
 pub mod Marking

@@ -16,8 +16,9 @@ use Rattle.am_cli.specs.commands.Link as link
 use Rattle.am_cli.specs.commands.Show as show
 use Rattle.am_cli.specs.commands.Check as check
 use Rattle.am_cli.specs.commands.Clusters as clusters
+use Rattle.am_cli.specs.commands.Meter as metering
 use Rattle.am_cli.specs.declared.answer.Reason.{Reason}
-use Rattle.am_cli.specs.declared.answer.Reason.TheVariants.{TooLong, BadCapture, HeadersCut, BadDomain, NotInserted, RecordFull}
+use Rattle.am_cli.specs.declared.answer.Reason.TheVariants.{TooLong, BadCapture, HeadersCut, BadDomain, NotInserted, RecordFull, UnknownNode}
 use Rattle.am_cli.specs.declared.answer.Stop.{Stop}
 use Rattle.am_cli.specs.declared.answer.Unprinted.{Unprinted}
 use Rattle.am_cli.specs.declared.answer.Unprinted.TheVariants as unprinted
@@ -26,10 +27,11 @@ use Rattle.am_cli.specs.declared.commands.link.LinkWords.{LinkWords}
 use Rattle.am_cli.specs.declared.commands.show.ShowWords.{ShowWords}
 use Rattle.am_cli.specs.declared.commands.check.CheckWords.{CheckWords}
 use Rattle.am_cli.specs.declared.commands.clusters.ClustersWords.{ClustersWords}
+use Rattle.am_cli.specs.declared.commands.meter.MeterWords.{MeterWords}
 use Rattle.am_cli.specs.declared.words.DomainFileWords.{DomainFileWords}
 use Rattle.am_cli.specs.WordForms as form_of_words
 use Rattle.am_cli.specs.declared.commands.Command.{Command}
-use Rattle.am_cli.specs.declared.commands.Command.TheVariants.{Link as LinkCommand, Show as ShowCommand, Check as CheckCommand, Clusters as ClustersCommand, Mark as MarkCommand, Strip as StripCommand}
+use Rattle.am_cli.specs.declared.commands.Command.TheVariants.{Link as LinkCommand, Show as ShowCommand, Check as CheckCommand, Clusters as ClustersCommand, Mark as MarkCommand, Strip as StripCommand, Meter as MeterCommand}
 
 -- what a `LinkWords` says
 abbrev pub link_shown : LinkWords → link.Link
@@ -53,6 +55,10 @@ check_shown w = record { file = w.file.now }
 abbrev pub clusters_shown : ClustersWords → clusters.Clusters
 clusters_shown w = record { file = w.file.now }
 
+-- what a `MeterWords` says
+abbrev pub meter_shown : MeterWords → metering.Meter
+meter_shown w = record { domain = w.domain.now; node = w.node.now }
+
 -- what a `DomainFileWords` says
 abbrev pub domain_file_shown : DomainFileWords → form_of_words.DomainFile
 domain_file_shown w = record { domain = w.domain.now; file = w.file.now }
@@ -65,6 +71,7 @@ command_shown (CheckCommand w) = record { kind = form.Kind.Checking; asked = che
 command_shown (ClustersCommand w) = record { kind = form.Kind.Clustering; asked = clusters_shown w }
 command_shown (MarkCommand w) = record { kind = form.Kind.MarkingPackets; asked = domain_file_shown w }
 command_shown (StripCommand w) = record { kind = form.Kind.Stripping; asked = domain_file_shown w }
+command_shown (MeterCommand w) = record { kind = form.Kind.Metering; asked = meter_shown w }
 
 -- what a `Reason` says
 abbrev pub reason_shown : Reason → said.Reason
@@ -74,6 +81,7 @@ reason_shown (HeadersCut number) = said.Reason.HeadersCut number
 reason_shown (BadDomain error) = said.Reason.BadDomain error
 reason_shown (NotInserted number error) = said.Reason.NotInserted number error
 reason_shown (RecordFull number) = said.Reason.RecordFull number
+reason_shown UnknownNode = said.Reason.UnknownNode
 
 -- what a `Stop` says
 abbrev pub stop_shown : Stop → Answer

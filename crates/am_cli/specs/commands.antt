@@ -4,3 +4,4 @@ pub mod Check
 pub mod Clusters
 pub mod Mark
 pub mod Strip
+pub mod Meter

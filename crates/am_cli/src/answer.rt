@@ -1,5 +1,5 @@
 //! Why a command stops, with which status, and the one line that it leaves on standard error.
-ghost use Rattle.std.specs.Prelude.{◌≡◌, ◌++◌, Some, IfOk, OnOk, option_map, string_bytes, codes, decimal};
+ghost use Rattle.std.specs.Prelude.{◌≡◌, ◌++◌, Some, None, IfOk, OnOk, option_map, string_bytes, codes, decimal};
 ghost use Rattle.am_cli.specs.Answers as said;
 ghost use Rattle.am_cli.specs.Answers.{said_of, refusal_line, subject, reason_text, line, status};
 ghost use Rattle.am_cli.specs.Shown.{reason_shown, stop_shown, IsAnswered, file_answer, capture_answer, stream_answer, record_answer, domain_answer};
@@ -27,6 +27,8 @@ pub enum Reason {
     NotInserted { number: u64, error: InsertError },
     /// The record of this number has no room for a mark.
     RecordFull { number: u64 },
+    /// The domain has no node of the name that was asked for.
+    UnknownNode,
 }
 
 /// Why a record of a capture isn't printed.
@@ -156,6 +158,17 @@ impl Stop {
         }
     }
 
+    /// The domain has no node of the name that was asked for.
+    pub fn unknown_node() -> Stop
+        ensures { stop_shown result
+            ≡ said.Answer.Ended (said.Ending.Refused None said.Reason.UnknownNode) }
+    {
+        Stop::Refused {
+            name: None,
+            reason: Reason::UnknownNode,
+        }
+    }
+
     /// The status of the program.
     pub fn status(&self) -> u8
         ensures { result ≡ status (stop_shown self.now) }
@@ -222,6 +235,7 @@ fn push_subject(line: &mut String, name: &Option<String>, reason: Reason) -> Res
         Reason::HeadersCut { .. } => push_name(line, name.as_str()),
         Reason::NotInserted { .. } => push_name(line, name.as_str()),
         Reason::RecordFull { .. } => push_name(line, name.as_str()),
+        Reason::UnknownNode => push_name(line, name.as_str()),
     }
 }
 
@@ -245,5 +259,6 @@ fn push_reason(line: &mut String, reason: Reason) -> Result<(), AllocError>
         Reason::BadDomain { error } => write!(line, "{error}"),
         Reason::NotInserted { number, error } => write!(line, "record {number}: {error}"),
         Reason::RecordFull { number } => write!(line, "record {number}: record full"),
+        Reason::UnknownNode => line.push_str("unknown node"),
     }
 }

@@ -11,6 +11,7 @@ mod check;
 mod clusters;
 mod link;
 mod mark;
+mod meter;
 mod show;
 mod strip;
 
@@ -20,6 +21,7 @@ use am_base::{Shelf, Sink};
 use check::CheckWords;
 use clusters::ClustersWords;
 use link::LinkWords;
+use meter::MeterWords;
 use show::ShowWords;
 use std::alloc::Global;
 
@@ -38,6 +40,8 @@ pub enum Command<'a> {
     Mark(DomainFileWords<'a>),
     /// A capture without them.
     Strip(DomainFileWords<'a>),
+    /// The report of a node of a domain.
+    Meter(MeterWords<'a>),
 }
 
 /// The command that the words are; none where they are no command.
@@ -93,6 +97,12 @@ fn command_named<'a>(verb: &str, words: &'a [String]) -> Option<Command<'a>>
         };
         return Some(Command::Strip(asked));
     }
+    if verb == "meter" {
+        let Some(asked) = meter::words_of(words) else {
+            return None;
+        };
+        return Some(Command::Meter(asked));
+    }
     None
 }
 
@@ -116,5 +126,6 @@ pub fn perform<S: Shelf, O: Sink>(
         Command::Clusters(asked) => clusters::clusters(alloc, asked, shelf, out),
         Command::Mark(asked) => mark::mark(alloc, asked, shelf, out),
         Command::Strip(asked) => strip::strip(alloc, asked, shelf, out),
+        Command::Meter(asked) => meter::meter(alloc, asked, shelf, out),
     }
 }

@@ -69,7 +69,8 @@ pub fn change_record(
     requires within { at ≤ length record.now.bytes.now }
     requires edit { IsEditOf edit.now (drop at record.now.bytes.now) }
     ensures { OnOk result
-        (piece.new.bytes.items ≡ head_spelled form.big record.now.seconds record.now.fraction lengths.0 lengths.1
+        (piece.new.bytes.items
+        ≡ head_spelled form.big record.now.seconds record.now.fraction lengths.0 lengths.1
         ++ (take at record.now.bytes.now ++ edited edit.now (drop at record.now.bytes.now))) }
 {
     piece.clear();

@@ -8,6 +8,7 @@ mod check;
 mod clusters;
 mod link;
 mod mark;
+mod meter;
 mod show;
 mod words;
 

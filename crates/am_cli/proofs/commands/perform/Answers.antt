@@ -58,3 +58,12 @@ returns-in-Strip g c =
     (output (g.O.Sink.written c.args.out.now) (g.O.Sink.faults c.args.out.now)) (output (g.O.Sink.written c.strip.new.out) (g.O.Sink.faults c.strip.new.out))
     (chain_of (command_shown x)) (answer_of c.strip.result))
     (sym c.in-Strip.is) c.strip.ensures
+
+pub returns-in-Meter : goal.returns-in-Meter
+returns-in-Meter g c =
+    subst
+    (λ x. Performs (inputs (g.S.Shelf.told c.args.shelf.now) (g.S.Shelf.faults c.args.shelf.now) (g.S.Shelf.missed c.args.shelf.now))
+    (inputs (g.S.Shelf.told c.meter.new.shelf) (g.S.Shelf.faults c.meter.new.shelf) (g.S.Shelf.missed c.meter.new.shelf))
+    (output (g.O.Sink.written c.args.out.now) (g.O.Sink.faults c.args.out.now)) (output (g.O.Sink.written c.meter.new.out) (g.O.Sink.faults c.meter.new.out))
+    (chain_of (command_shown x)) (answer_of c.meter.result))
+    (sym c.in-Meter.is) c.meter.ensures
