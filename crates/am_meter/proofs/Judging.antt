@@ -19,7 +19,7 @@ use Rattle.am_meter.specs.declared.stream.Marked.{Marked}
 use Rattle.am_meter.proofs.Marking.{marked-once, uncut-among}
 
 -- a whole capture begins with its records
-begins-whole : (bytes : List ℕ) (h : Head) (ps : List Packet) → IsWholeCapture bytes h ps → BeginsWith bytes h ps
+pub begins-whole : (bytes : List ℕ) (h : Head) (ps : List Packet) → IsWholeCapture bytes h ps → BeginsWith bytes h ps
 begins-whole bytes h ps c = record {
   front = bytes;
   rest = [];

@@ -1,3 +1,10 @@
 pub mod Marking
 pub mod Judging
 pub mod Onward
+pub mod Cells
+pub mod Places
+pub mod Slots
+pub mod Batched
+pub mod Packed
+pub mod Counts
+pub mod Files

@@ -12,21 +12,20 @@ use Rattle.am_pcap.specs.declared.head.Head.{Head}
 use Rattle.am_pcap.specs.declared.frame.LinkKind.{LinkKind}
 use Rattle.am_pcap.specs.declared.frame.Frame.{Frame}
 use Rattle.am_pcap.specs.declared.frame.Frame.TheVariants.{Ip6, Other, Cut}
-use Rattle.am_meter.specs.Marks.{IsSeenIn, ShowsMark, AreMarked, marked_in}
+use Rattle.am_meter.specs.Marks.{AreSeen, IsSeenIn, ShowsMark, AreMarked, marked_in}
 use Rattle.am_meter.specs.declared.stream.Marked.{Marked}
 
--- what is found in a packet is what its record shows
+-- what is found in a packet is what the bytes of its record show
 pub seen-of_packet :
-    (place : Place) (link : LinkKind) (p : Packet) (at : ℕ) (whole : Bool) (packet : List ℕ) (seen : Seen)
-    → whole ≡ is_whole p
-    → packet ≡ drop at p.bytes
-    → IsFramed link p.bytes whole (Ip6 at)
+    (place : Place) (link : LinkKind) (bytes : List ℕ) (whole : Bool) (at : ℕ) (packet : List ℕ) (seen : Seen)
+    → packet ≡ drop at bytes
+    → IsFramed link bytes whole (Ip6 at)
     → IsSeen packet whole place seen
-    → IsSeenIn place link p seen
-seen-of_packet place link p at whole packet seen same rest says found = record {
+    → AreSeen place link bytes whole seen
+seen-of_packet place link bytes whole at packet seen rest says found = record {
   frame = Ip6 at;
-  framed = subst (λ w. IsFramed link p.bytes w (Ip6 at)) same says;
-  shows = subst (λ w. IsSeen (drop at p.bytes) w place seen) same (subst (λ x. IsSeen x whole place seen) rest found);
+  framed = says;
+  shows = subst (λ x. IsSeen x whole place seen) rest found;
 }
 
 -- one more record
@@ -62,16 +61,22 @@ module _
     (seens : (packet : List ℕ) (whole : Bool) (place : Place) (a b : Seen) → IsSeen packet whole place a → IsSeen packet whole place b → a ≡ b)
   where
     frame-once :
-        (place : Place) (p : Packet) (f : Frame) (a b : Seen) → ShowsMark place p f a → ShowsMark place p f b → a ≡ b
-    frame-once place p (Ip6 at) a b x y = seens (drop at p.bytes) (is_whole p) place a b x y
-    frame-once place p Other a b x y = x ∙ sym y
-    frame-once place p Cut a b x y = x ∙ sym y
+        (place : Place) (bytes : List ℕ) (whole : Bool) (f : Frame) (a b : Seen)
+        → ShowsMark place bytes whole f a → ShowsMark place bytes whole f b → a ≡ b
+    frame-once place bytes whole (Ip6 at) a b x y = seens (drop at bytes) whole place a b x y
+    frame-once place bytes whole Other a b x y = x ∙ sym y
+    frame-once place bytes whole Cut a b x y = x ∙ sym y
+
+    pub seen-once :
+        (place : Place) (link : LinkKind) (bytes : List ℕ) (whole : Bool) (a b : Seen)
+        → AreSeen place link bytes whole a → AreSeen place link bytes whole b → a ≡ b
+    seen-once place link bytes whole a b x y =
+        let same : y.frame ≡ x.frame = frames link bytes whole y.frame x.frame y.framed x.framed in
+        frame-once place bytes whole x.frame a b x.shows (subst (λ f. ShowsMark place bytes whole f b) same y.shows)
 
     pub record-once :
         (place : Place) (link : LinkKind) (p : Packet) (a b : Seen) → IsSeenIn place link p a → IsSeenIn place link p b → a ≡ b
-    record-once place link p a b x y =
-        let same : y.frame ≡ x.frame = frames link p.bytes (is_whole p) y.frame x.frame y.framed x.framed in
-        frame-once place p x.frame a b x.shows (subst (λ f. ShowsMark place p f b) same y.shows)
+    record-once place link p a b x y = seen-once place link p.bytes (is_whole p) a b x y
 
     pub marked-once :
         (place : Place) (h : Head) (number : ℕ) (ps : List Packet) (ms ns : List Marked)

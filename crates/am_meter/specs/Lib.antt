@@ -2,3 +2,10 @@ pub mod Marks
 pub mod Streaming
 pub mod Streams
 pub mod Looks
+pub mod Metering
+pub mod Batches
+pub mod BatchSlots
+pub mod Lookups
+pub mod Counted
+pub mod Filling
+pub mod MeteredFiles

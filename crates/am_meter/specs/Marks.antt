@@ -1,5 +1,5 @@
 -- The marked records of a capture, for one kind of header, and why bytes have none.
-use Rattle.std.specs.Prelude.{◌≡◌, ◌≢◌, ◌⊎◌, ℕ, ◌+◌, List, [], ◌∷◌, ◌++◌, length, drop, Result, Ok, Err}
+use Rattle.std.specs.Prelude.{◌≡◌, ◌≢◌, ◌⊎◌, ℕ, ◌+◌, Bool, List, [], ◌∷◌, ◌++◌, length, drop, Result, Ok, Err}
 use Rattle.am_ip6.specs.Marks.{Seen}
 use Rattle.am_ip6.specs.Marks.Seen.{Marks, NoMark, CutOff}
 use Rattle.am_ip6.specs.Seen.{IsSeen}
@@ -14,24 +14,32 @@ use Rattle.am_pcap.specs.declared.frame.Frame.{Frame}
 use Rattle.am_pcap.specs.declared.frame.Frame.TheVariants.{Ip6, Other, Cut}
 use Rattle.am_meter.specs.declared.stream.Marked.{Marked}
 
--- what a record that holds this frame shows of a mark in this kind of header (RFC 9343, section 4)
-abbrev pub ShowsMark : Place → Packet → Frame → Seen → Type 0
-ShowsMark place p (Ip6 at) seen = IsSeen (drop at p.bytes) (is_whole p) place seen
-ShowsMark place p Other seen = seen ≡ NoMark
-ShowsMark place p Cut seen = seen ≡ CutOff
+-- what the bytes of a record that hold this frame show of a mark in this kind of header (RFC 9343, section 4)
+abbrev pub ShowsMark : Place → List ℕ → Bool → Frame → Seen → Type 0
+ShowsMark place bytes whole (Ip6 at) seen = IsSeen (drop at bytes) whole place seen
+ShowsMark place bytes whole Other seen = seen ≡ NoMark
+ShowsMark place bytes whole Cut seen = seen ≡ CutOff
+
+-- what the bytes of a record of this link type show of a mark, where all bytes of the packet were captured or not
+pub record AreSeen (place : Place) (link : LinkKind) (bytes : List ℕ) (whole : Bool) (seen : Seen) : Type 0 where
+  pub frame : Frame
+  pub framed : IsFramed link bytes whole frame
+  pub shows : ShowsMark place bytes whole frame seen
 
 -- what a record of this link type shows of a mark
-pub record IsSeenIn (place : Place) (link : LinkKind) (p : Packet) (seen : Seen) : Type 0 where
-  pub frame : Frame
-  pub framed : IsFramed link p.bytes (is_whole p) frame
-  pub shows : ShowsMark place p frame seen
+abbrev pub IsSeenIn : Place → LinkKind → Packet → Seen → Type 0
+IsSeenIn place link p seen = AreSeen place link p.bytes (is_whole p) seen
 
--- the marked record that a record of this number is, where it shows a mark
+-- the marked record that a record of this number and reading is, where it shows a mark
+abbrev pub marked_by : ℕ → ℕ → Seen → List Marked
+marked_by number reading (Marks mark at) =
+    record { number = number; reading = reading; mark = mark } ∷ []
+marked_by number reading NoMark = []
+marked_by number reading CutOff = []
+
+-- the same of a record of a capture
 abbrev pub marked_in : Head → ℕ → Packet → Seen → List Marked
-marked_in h number p (Marks mark at) =
-    record { number = number; reading = reading_of h.form.nano p; mark = mark } ∷ []
-marked_in h number p NoMark = []
-marked_in h number p CutOff = []
+marked_in h number p seen = marked_by number (reading_of h.form.nano p) seen
 
 -- none of these records, numbered from here, has headers that are cut, and these are the marked ones
 abbrev pub AreMarked : Place → Head → ℕ → List Packet → List Marked → Type 0

@@ -7,7 +7,7 @@ ghost use Rattle.am_ip6.specs.Seen.{seen_shown};
 ghost use Rattle.am_pcap.specs.Shown.{packet_shown};
 ghost use Rattle.am_pcap.specs.Answers.{EndsReading, GivesError, StopsReading};
 ghost use Rattle.am_pcap.specs.declared.capture.FileError.TheVariants as file;
-ghost use Rattle.am_meter.specs.Marks.{IsSeenIn};
+ghost use Rattle.am_meter.specs.Marks.{IsSeenIn, AreSeen};
 ghost use Rattle.am_meter.specs.Streaming.{stream_of};
 ghost use Rattle.am_meter.specs.Streams.{StreamsOn, GivesMarked, EndsStream, StopsStream, MayStop, WhyNotStreamed};
 ghost use Rattle.am_meter.specs.Looks.{LooksAt, ShowsAs};
@@ -62,8 +62,8 @@ impl Model for Stream {
 }
 
 impl Stream {
-    /// Opens the named file of the shelf, and reads it up to the end of its file header. Marks are looked for in headers
-    /// of this kind.
+    /// Opens the named file of the shelf, and reads it up to the end of its file header. Marks are looked for in
+    /// headers of this kind.
     ///
     /// `File`: as `Capture::open` says, and never `TooLong`. `HeadersCut` doesn't come.
     pub fn open<S: Shelf>(
@@ -222,9 +222,15 @@ fn seen_of(record: &Record<'_>, head: &Head, place: Place) -> Looked
 fn mark_in(record: &Record<'_>, link: LinkKind, place: Place) -> Found
     ensures { IsSeenIn place link (packet_shown record.now) (seen_shown result) }
 {
-    let whole = record.whole();
-    match packet_of(link, record.bytes, whole) {
-        Frame::Ip6 { at } => find_mark(&record.bytes[at..], whole, place),
+    find_mark_in(link, record.bytes, record.whole(), place)
+}
+
+// What the bytes of a record show of a mark in this kind of header, where all bytes of its packet were captured or not.
+pub(crate) fn find_mark_in(link: LinkKind, bytes: &[u8], whole: bool, place: Place) -> Found
+    ensures { AreSeen place link bytes.now whole (seen_shown result) }
+{
+    match packet_of(link, bytes, whole) {
+        Frame::Ip6 { at } => find_mark(&bytes[at..], whole, place),
         Frame::Other => Found::Unmarked,
         Frame::Cut => Found::Cut,
     }

@@ -10,6 +10,8 @@ use am_pcap::{CapError, FileError};
 use std::alloc::{AllocError, Global};
 use std::test::Fail;
 
+mod metering;
+
 // A file header: little-endian, microseconds, raw IP.
 const HEAD: [u8; 24] = [
     0xd4, 0xc3, 0xb2, 0xa1, 2, 0, 4, 0, 0, 0, 0, 0, 0, 0, 0, 0, 0, 0, 4, 0, 101, 0, 0, 0,
