@@ -1,10 +1,10 @@
 -- The words are one command; what the inputs of a command come to has one status. A command owes a case in each of these.
-use Rattle.std.proofs.Common.{refl, sym, ap, subst, ◌∙◌, ◌≡◌, ℕ, List, ◌∷◌, Option, Some, None, codes}
+use Rattle.std.proofs.Common.{refl, sym, ap, subst, ◌∙◌, ◌≡◌, ℕ, List, [], ◌∷◌, ◌++◌, Option, Some, None, codes}
 use Rattle.std.specs.Prelude.{Result, Ok, bytes_eq, cond}
 use Rattle.am_base.specs.Shelves.{Told}
 use Rattle.am_ip6.specs.declared.marks.Place.TheVariants.{HopByHop}
 use Rattle.am_cli.specs.Forms.{Kind, Command, SaysCommand, IsNoCommand, form}
-use Rattle.am_cli.specs.Forms.Kind.{Linking, Showing, Checking, Clustering, MarkingPackets, Stripping, Metering}
+use Rattle.am_cli.specs.Forms.Kind.{Linking, Showing, Checking, Clustering, MarkingPackets, Stripping, Metering, Auditing}
 use Rattle.am_cli.specs.Inputs.{JudgesCapture, JudgesDomain}
 use Rattle.am_domain.specs.Domains.{DomainValue}
 use Rattle.am_cli.specs.Answers.{Reason}
@@ -17,10 +17,14 @@ use Rattle.am_cli.specs.WordForms.{DomainFile, SaysDomainFile}
 use Rattle.am_cli.specs.Laws.{Laws, IsOne}
 use Rattle.am_cli.specs.commands.Link.{Link, SaysLinkWords}
 use Rattle.am_cli.specs.commands.Show.{record_lines}
+use Rattle.am_cli.specs.Answers.Ending.{Done}
+use Rattle.am_domain.specs.Values.{NodeValue}
+use Rattle.am_meter.specs.declared.stream.Marked.{Marked}
+use Rattle.am_cli.specs.commands.Audit.{audit_from}
 use Rattle.am_cli.specs.commands.Meter.{Meter, SaysMeterWords, report_chain}
 use Rattle.am_cli.specs.commands.Mark.{marked_records}
 use Rattle.am_cli.specs.commands.Strip.{stripped_records}
-use Rattle.am_cli.proofs.EndingLemmas.{SameEnds, StreamExcludes, both-on-file, same-reads, same-prints, same-refuses, same-streams}
+use Rattle.am_cli.proofs.EndingLemmas.{SameEnds, StreamExcludes, both-on-file, same-reads, same-prints, same-writes, same-refuses, same-streams}
 use Rattle.am_cli.proofs.MarkLemmas.{marks-exclude}
 
 -- the command that a word names
@@ -32,7 +36,8 @@ named word =
     (cond (bytes_eq word (codes "clusters")) (Some Clustering)
     (cond (bytes_eq word (codes "mark")) (Some MarkingPackets)
     (cond (bytes_eq word (codes "strip")) (Some Stripping)
-    (cond (bytes_eq word (codes "meter")) (Some Metering) None))))))
+    (cond (bytes_eq word (codes "meter")) (Some Metering)
+    (cond (bytes_eq word (codes "audit")) (Some Auditing) None)))))))
 
 verb-named : (k : Kind) → named (form k).verb ≡ Some k
 unfolding named
@@ -43,6 +48,7 @@ verb-named Clustering = refl
 verb-named MarkingPackets = refl
 verb-named Stripping = refl
 verb-named Metering = refl
+verb-named Auditing = refl
 
 -- the words of `link` by their parts
 abbrev made : ℕ → ℕ → ℕ → List ℕ → List ℕ → Link
@@ -91,6 +97,7 @@ once Clustering words a b s t = let same : a.file ≡ b.file = cc (sym s.spelled
 once MarkingPackets words a b s t = domain-file-once words a b s t
 once Stripping words a b s t = domain-file-once words a b s t
 once Metering words a b s t = meter-once words a b s t
+once Auditing words a b s t = let same : a.file ≡ b.file = cc (sym s.spelled ∙ t.spelled) in ap (λ f. record { file = f }) same
 
 -- what is taken of one file twice is one thing
 both-judged :
@@ -122,6 +129,12 @@ same-reported : (t : Told) (d : DomainValue) (node : ℕ) → Laws → SameEnds 
 same-reported t d node laws =
     same-reads t (capture_of d node) (JudgesCapture d.kind) _ _ (laws.marks d.kind) (λ ms ns p q. same-prints t _ _)
 
+same-audited :
+    (t : Told) (d : DomainValue) → Laws → (ns : List NodeValue) (xs ys : List (List Marked)) → SameEnds t (audit_from d ns xs) (audit_from d ns ys)
+same-audited t d laws [] xs ys = same-writes t Done _ _
+same-audited t d laws (n ∷ ns) xs ys =
+    same-reads t n.capture (JudgesCapture d.kind) _ _ (laws.marks d.kind) (λ ms ls p q. same-audited t d laws ns (xs ++ ms ∷ []) (ys ++ ls ∷ []))
+
 -- two chains of one command come to one status
 pub settled : (t : Told) (k : Kind) (a : (form k).Asked) → Laws → SameEnds t ((form k).chain a) ((form k).chain a)
 settled t Linking a laws =
@@ -141,6 +154,7 @@ settled t Stripping a laws =
     (record { never = λ h ps p more reason text refused all. refused }))
 settled t Metering a laws =
     same-for-one t a.domain _ laws (λ d. same-at-node t (node_named d a.node) (report_chain d) (λ node. same-reported t d node laws))
+settled t Auditing a laws = same-for-one t a.file _ laws (λ d. same-audited t d laws d.nodes [] [])
 
 -- what holds of one command that the words are holds of the other
 pub says-once : (P : Command → Type 0) (words : List (List ℕ)) (c d : Command) → SaysCommand words c → SaysCommand words d → P c → P d

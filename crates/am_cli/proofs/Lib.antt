@@ -13,3 +13,4 @@ pub mod RewriteLemmas
 pub mod MarkLemmas
 pub mod StripLemmas
 pub mod NodeLemmas
+pub mod AuditLemmas

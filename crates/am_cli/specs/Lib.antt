@@ -11,6 +11,7 @@ pub mod Showing
 pub mod Printing
 pub mod Checking
 pub mod NodeWords
+pub mod Auditing
 pub mod commands
 pub mod Rewriting
 pub mod Marking

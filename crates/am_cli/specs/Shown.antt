@@ -17,6 +17,7 @@ use Rattle.am_cli.specs.commands.Show as show
 use Rattle.am_cli.specs.commands.Check as check
 use Rattle.am_cli.specs.commands.Clusters as clusters
 use Rattle.am_cli.specs.commands.Meter as metering
+use Rattle.am_cli.specs.commands.Audit as audit
 use Rattle.am_cli.specs.declared.answer.Reason.{Reason}
 use Rattle.am_cli.specs.declared.answer.Reason.TheVariants.{TooLong, BadCapture, HeadersCut, BadDomain, NotInserted, RecordFull, UnknownNode}
 use Rattle.am_cli.specs.declared.answer.Stop.{Stop}
@@ -28,10 +29,11 @@ use Rattle.am_cli.specs.declared.commands.show.ShowWords.{ShowWords}
 use Rattle.am_cli.specs.declared.commands.check.CheckWords.{CheckWords}
 use Rattle.am_cli.specs.declared.commands.clusters.ClustersWords.{ClustersWords}
 use Rattle.am_cli.specs.declared.commands.meter.MeterWords.{MeterWords}
+use Rattle.am_cli.specs.declared.commands.audit.AuditWords.{AuditWords}
 use Rattle.am_cli.specs.declared.words.DomainFileWords.{DomainFileWords}
 use Rattle.am_cli.specs.WordForms as form_of_words
 use Rattle.am_cli.specs.declared.commands.Command.{Command}
-use Rattle.am_cli.specs.declared.commands.Command.TheVariants.{Link as LinkCommand, Show as ShowCommand, Check as CheckCommand, Clusters as ClustersCommand, Mark as MarkCommand, Strip as StripCommand, Meter as MeterCommand}
+use Rattle.am_cli.specs.declared.commands.Command.TheVariants.{Link as LinkCommand, Show as ShowCommand, Check as CheckCommand, Clusters as ClustersCommand, Mark as MarkCommand, Strip as StripCommand, Meter as MeterCommand, Audit as AuditCommand}
 
 -- what a `LinkWords` says
 abbrev pub link_shown : LinkWords → link.Link
@@ -59,6 +61,10 @@ clusters_shown w = record { file = w.file.now }
 abbrev pub meter_shown : MeterWords → metering.Meter
 meter_shown w = record { domain = w.domain.now; node = w.node.now }
 
+-- what an `AuditWords` says
+abbrev pub audit_shown : AuditWords → audit.Audit
+audit_shown w = record { file = w.file.now }
+
 -- what a `DomainFileWords` says
 abbrev pub domain_file_shown : DomainFileWords → form_of_words.DomainFile
 domain_file_shown w = record { domain = w.domain.now; file = w.file.now }
@@ -72,6 +78,7 @@ command_shown (ClustersCommand w) = record { kind = form.Kind.Clustering; asked 
 command_shown (MarkCommand w) = record { kind = form.Kind.MarkingPackets; asked = domain_file_shown w }
 command_shown (StripCommand w) = record { kind = form.Kind.Stripping; asked = domain_file_shown w }
 command_shown (MeterCommand w) = record { kind = form.Kind.Metering; asked = meter_shown w }
+command_shown (AuditCommand w) = record { kind = form.Kind.Auditing; asked = audit_shown w }
 
 -- what a `Reason` says
 abbrev pub reason_shown : Reason → said.Reason

@@ -5,3 +5,4 @@ pub mod Clusters
 pub mod Mark
 pub mod Strip
 pub mod Meter
+pub mod Audit

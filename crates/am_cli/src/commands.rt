@@ -7,6 +7,7 @@ ghost use Rattle.am_cli.specs.Chains.{inputs, output, Performs};
 ghost use Rattle.am_cli.specs.Forms.{SaysCommand, IsNoCommand, chain_of};
 ghost use Rattle.am_cli.specs.Shown.{command_shown, answer_of};
 
+mod audit;
 mod check;
 mod clusters;
 mod link;
@@ -18,6 +19,7 @@ mod strip;
 use crate::answer::Stop;
 use crate::words::{DomainFileWords, domain_file_of};
 use am_base::{Shelf, Sink};
+use audit::AuditWords;
 use check::CheckWords;
 use clusters::ClustersWords;
 use link::LinkWords;
@@ -42,6 +44,8 @@ pub enum Command<'a> {
     Strip(DomainFileWords<'a>),
     /// The report of a node of a domain.
     Meter(MeterWords<'a>),
+    /// The loss table of a domain.
+    Audit(AuditWords<'a>),
 }
 
 /// The command that the words are; none where they are no command.
@@ -103,6 +107,12 @@ fn command_named<'a>(verb: &str, words: &'a [String]) -> Option<Command<'a>>
         };
         return Some(Command::Meter(asked));
     }
+    if verb == "audit" {
+        let Some(asked) = audit::words_of(words) else {
+            return None;
+        };
+        return Some(Command::Audit(asked));
+    }
     None
 }
 
@@ -127,5 +137,6 @@ pub fn perform<S: Shelf, O: Sink>(
         Command::Mark(asked) => mark::mark(alloc, asked, shelf, out),
         Command::Strip(asked) => strip::strip(alloc, asked, shelf, out),
         Command::Meter(asked) => meter::meter(alloc, asked, shelf, out),
+        Command::Audit(asked) => audit::audit(alloc, asked, shelf, out),
     }
 }

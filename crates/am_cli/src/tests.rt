@@ -4,6 +4,7 @@ use am_base::{MemShelf, MemSink};
 use std::alloc::{AllocError, Global};
 use std::process::Abort;
 
+mod audit;
 mod check;
 mod clusters;
 mod link;

@@ -6,7 +6,7 @@ use std::test::Fail;
 const OTHER: u32 = 0x1234_6000;
 
 // The second point sees the packets of the first half a millisecond later, and one of them not.
-const DOWN: [Seen; 5] = [
+pub const DOWN: [Seen; 5] = [
     (1, 500, DELAY),
     (2, 500, PLAIN),
     (11, 500, BOTH),

@@ -67,3 +67,12 @@ returns-in-Meter g c =
     (output (g.O.Sink.written c.args.out.now) (g.O.Sink.faults c.args.out.now)) (output (g.O.Sink.written c.meter.new.out) (g.O.Sink.faults c.meter.new.out))
     (chain_of (command_shown x)) (answer_of c.meter.result))
     (sym c.in-Meter.is) c.meter.ensures
+
+pub returns-in-Audit : goal.returns-in-Audit
+returns-in-Audit g c =
+    subst
+    (λ x. Performs (inputs (g.S.Shelf.told c.args.shelf.now) (g.S.Shelf.faults c.args.shelf.now) (g.S.Shelf.missed c.args.shelf.now))
+    (inputs (g.S.Shelf.told c.audit.new.shelf) (g.S.Shelf.faults c.audit.new.shelf) (g.S.Shelf.missed c.audit.new.shelf))
+    (output (g.O.Sink.written c.args.out.now) (g.O.Sink.faults c.args.out.now)) (output (g.O.Sink.written c.audit.new.out) (g.O.Sink.faults c.audit.new.out))
+    (chain_of (command_shown x)) (answer_of c.audit.result))
+    (sym c.in-Audit.is) c.audit.ensures
