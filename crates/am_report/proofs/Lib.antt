@@ -1,0 +1,14 @@
+pub mod DecimalLemmas
+pub mod FieldLemmas
+pub mod TextLemmas
+pub mod LineLemmas
+pub mod FillLemmas
+pub mod RowsReadLemmas
+pub mod ReadLemmas
+pub mod TakeLemmas
+pub mod RowsAlone
+pub mod TakenAlone
+pub mod RefusedAlone
+pub mod ReportAlone
+pub mod ReadBack
+pub mod RowLemmas
