@@ -105,5 +105,5 @@ network-lost d m flow block lawful of =
     let f = λ (v : ℕ). (node_cell m.cells flow block v).count in
     let edge = edge-and-sides d m.plan lawful of f in
     let all = differences (λ k. sum_by f (list_at m.plan.clusters.starts k)) (λ k. sum_by f (list_at m.plan.clusters.ends k))
-        (range_with_len 0 (count_of m.plan.clusters)) (pos 0) in
+    (range_with_len 0 (count_of m.plan.clusters)) (pos 0) in
     edge ∙ sym (all ∙ omega (arith, ints))

@@ -33,7 +33,7 @@ pub measured-there : (c : ControlValue) (node : ℕ) (t : CellTable) (flow block
     → cell_at t flow block ≡ node_cell (measured_of c).cells flow block node
 measured-there c node t flow block is =
     let table : get_or (map (λ r. unwrap_or r no_table) c.reports) node no_table ≡ t
-        = get_or-map (λ r. unwrap_or r no_table) c.reports node None ∙ ap (λ r. unwrap_or r no_table) is in
+    = get_or-map (λ r. unwrap_or r no_table) c.reports node None ∙ ap (λ r. unwrap_or r no_table) is in
     ap (λ s. cell_at s flow block) (sym table)
 
 -- cells of a plan's shape have each cell of the plan

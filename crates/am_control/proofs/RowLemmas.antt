@@ -26,7 +26,7 @@ pub flat-at : {X A : Type 0} (f : X → List A) (n : ℕ) → ((x : X) → lengt
     → i < length xs → j < n → get_or (flat_map f xs) (i * n + j) d ≡ get_or (f (get_or xs i e)) j d
 flat-at f n each xs i j e d within below =
     let before : length (flat_map f (take i xs)) ≡ i * n
-        = flat-length f n each (take i xs) ∙ ap (λ l. l * n) (length-take-le i xs (omega arith)) in
+    = flat-length f n each (take i xs) ∙ ap (λ l. l * n) (length-take-le i xs (omega arith)) in
     subst (λ p. get_or (flat_map f xs) (p + j) d ≡ get_or (f (get_or xs i e)) j d) before
     (get_or-flat_map f xs i j e d within (omega (arith, each (get_or xs i e))))
 
@@ -82,11 +82,11 @@ module _ (m : Measured) where
       let blocks = m.plan.end - m.plan.first in
       let scope = get_or (scopes (count_of m.plan.clusters)) i Network in
       let inner : flow * blocks + j < m.plan.flows * blocks
-          = omega (arith, mul-add-lt flow blocks j m.plan.flows flow_there below, mul_comm m.plan.flows blocks) in
+      = omega (arith, mul-add-lt flow blocks j m.plan.flows flow_there below, mul_comm m.plan.flows blocks) in
       let one = flat-at (scope_rows m) (m.plan.flows * blocks) scope-length (scopes (count_of m.plan.clusters)) i (flow * blocks + j) Network d
-          (omega (arith, scopes-length (count_of m.plan.clusters))) inner in
+      (omega (arith, scopes-length (count_of m.plan.clusters))) inner in
       let two = flat-at (flow_rows m scope) blocks (flow-length scope) (range_with_len 0 m.plan.flows) flow j 0 d
-          (omega (arith, length-range_with_len 0 m.plan.flows)) below in
+      (omega (arith, length-range_with_len 0 m.plan.flows)) below in
       let three = ap (λ f. get_or (flow_rows m scope f) j d) (get_or-range_with_len 0 m.plan.flows flow 0 flow_there ∙ zero-add flow) in
       let four = get_or-map-range_with_len (loss_row m scope flow) m.plan.first blocks j (m.plan.first + j) d below refl in
       one ∙ two ∙ three ∙ four
@@ -103,7 +103,7 @@ module _ (m : Measured) where
   scope-within k flows blocks ef eb some_flow some_block within =
       let total : length (loss_rows m) ≡ (count_of m.plan.clusters + 1) * (flows * blocks) = rw (ef, eb) rows-length in
       let wide : k < (count_of m.plan.clusters + 1) * flows * blocks
-          = omega (arith, total, mul_assoc (count_of m.plan.clusters + 1) flows blocks) in
+      = omega (arith, total, mul_assoc (count_of m.plan.clusters + 1) flows blocks) in
       div_below (k / blocks) flows (count_of m.plan.clusters + 1) some_flow
       (div_below k blocks ((count_of m.plan.clusters + 1) * flows) some_block wide)
 
@@ -116,10 +116,10 @@ module _ (m : Measured) where
       let scope = k / blocks / flows in
       let high = scope-within k flows blocks ef eb some_flow some_block within in
       let there = row-there scope (k / blocks % flows) (k % blocks) row high
-          (omega (arith, mod_below (k / blocks) flows some_flow)) (omega (arith, mod_below k blocks some_block)) in
+      (omega (arith, mod_below (k / blocks) flows some_flow)) (omega (arith, mod_below k blocks some_block)) in
       let place = three-digits k flows blocks some_flow some_block in
       let here : get_or (loss_rows m) k row ≡ row
-          = subst (λ p. get_or (loss_rows m) p row ≡ row) place (rw (ef, eb) (rw (ef, eb) at there ∙ sym (rw (ef, eb) at is))) in
+      = subst (λ p. get_or (loss_rows m) p row ≡ row) place (rw (ef, eb) (rw (ef, eb) at there ∙ sym (rw (ef, eb) at is))) in
       slice_get_read (loss_rows m) (length (loss_rows m)) k row refl within (sym here)
 
 -- the scope of a place among the clusters, and of the one behind them

@@ -45,10 +45,10 @@ side-without has n small = record {
       (λ i h. let e = get_or-range_with_len 0 n i 0 (omega (arith, h, length-range_with_len 0 n)) in
       omega (arith, e, h, length-range_with_len 0 n)));
   few = omega (
-      arith,
-      length-filter (λ node. not (has node)) (range_with_len 0 n),
-      count_by-le-length (λ node. not (has node)) (range_with_len 0 n),
-      length-range_with_len 0 n,
+    arith,
+    length-filter (λ node. not (has node)) (range_with_len 0 n),
+    count_by-le-length (λ node. not (has node)) (range_with_len 0 n),
+    length-range_with_len 0 n,
   );
 }
 
@@ -95,7 +95,7 @@ without-next : (has : ℕ → Bool) (n : ℕ)
     → nodes_without has (n + 1) ≡ nodes_without has n ++ filter (λ node. not (has node)) (n ∷ [])
 without-next has n =
     let longer : range_with_len 0 (n + 1) ≡ range_with_len 0 n ++ n ∷ []
-        = ap (λ l. range_with_len 0 l) (add-one n) ∙ range-more 0 n ∙ ap (λ x. range_with_len 0 n ++ x ∷ []) (zero-add n) in
+    = ap (λ l. range_with_len 0 l) (add-one n) ∙ range-more 0 n ∙ ap (λ x. range_with_len 0 n ++ x ∷ []) (zero-add n) in
     ap (λ xs. filter (λ node. not (has node)) xs) longer ∙ filter-append (λ node. not (has node)) (range_with_len 0 n) (n ∷ [])
 
 pub without-keeps : (has : ℕ → Bool) (n : ℕ) → has n ≡ true → nodes_without has (n + 1) ≡ nodes_without has n

@@ -36,7 +36,7 @@ sum-turned h (x ∷ xs) ys =
     let e = sum-turned h xs ys in
     let b = sum-both (λ y. h x y) (λ y. sum_by (λ x. h x y) xs) ys in
     let s = sum-same (λ y. sum_by (λ x. h x y) (x ∷ xs)) (λ y. h x y + sum_by (λ x. h x y) xs) ys
-        (λ y _. sum_by-cons (λ x. h x y) x xs) in
+    (λ y _. sum_by-cons (λ x. h x y) x xs) in
     sum_by-cons (λ x. sum_by (λ y. h x y) ys) x xs ∙ omega (arith, e, b, s)
 
 -- a term that one number alone has, in a run that begins behind it
@@ -110,7 +110,7 @@ sum-listed f n (x ∷ xs) up below =
     let first = one-there f x 0 n (omega arith) (omega (arith, below x (0, omega arith, refl))) in
     let both = sum-both (λ v. cond (eqb v x) (f v) 0) (λ v. cond (has_item xs v) (f v) 0) (range_with_len 0 n) in
     let each = sum-same (λ v. cond (has_item (x ∷ xs) v) (f v) 0) (λ v. cond (eqb v x) (f v) 0 + cond (has_item xs v) (f v) 0)
-        (range_with_len 0 n) (λ v _. apart f x xs up v) in
+    (range_with_len 0 n) (λ v _. apart f x xs up v) in
     sum_by-cons f x xs ∙ omega (arith, rest, first, both, each)
 
 -- a sum over the numbers that pass a test
@@ -143,11 +143,11 @@ one-side f has n count side parts v below = elim (cases_Bool (has v)) [
   | inl there ↦
       let k = parts.stands v below there in
       let same = sum-same (λ j. cond (has_item (side j) v) (f v) 0) (λ j. cond (eqb j k.0) (f v) 0) (range_with_len 0 count)
-          (λ j h. in-one j (in-run count j h) k.0 k.1 k.2 k.3) in
+      (λ j h. in-one j (in-run count j h) k.0 k.1 k.2 k.3) in
       rw there (same ∙ one-there (λ _. f v) k.0 0 count (omega arith) (omega (arith, k.1)))
   | inr away ↦
       let same = sum-same (λ j. cond (has_item (side j) v) (f v) 0) (λ j. 0) (range_with_len 0 count)
-          (λ j h. in-none j (in-run count j h) away) in
+      (λ j h. in-none j (in-run count j h) away) in
       rw away (same ∙ sum-none (range_with_len 0 count))
 ]
   where
@@ -161,13 +161,14 @@ one-side f has n count side parts v below = elim (cases_Bool (has v)) [
           rw (there, same) refl
       | inr other ↦
           let none : has_item (side j) v ≡ false
-              = has-not (side j) v (λ h. false≢true (rw other at (eq-eqb j k (only j within h)))) in
+          = has-not (side j) v (λ h. false≢true (rw other at (eq-eqb j k (only j within h)))) in
           rw (none, other) refl
     ]
+
     in-none : (j : ℕ) → j < count → has v ≡ false → cond (has_item (side j) v) (f v) 0 ≡ 0
     in-none j within away =
         let none : has_item (side j) v ≡ false
-            = has-not (side j) v (λ h. false≢true (rw away at (parts.passes v j within h).1)) in
+        = has-not (side j) v (λ h. false≢true (rw away at (parts.passes v j within h).1)) in
         rw none refl
 
 -- so the sums over the lists add up to the sum over the numbers that pass
@@ -175,10 +176,10 @@ pub sum-of-parts : (f : ℕ → ℕ) (has : ℕ → Bool) (n count : ℕ) (side 
     → sum_by (λ k. sum_by f (side k)) (range_with_len 0 count) ≡ sum_by f (filter has (range_with_len 0 n))
 sum-of-parts f has n count side parts =
     let listed = sum-same (λ k. sum_by f (side k)) (λ k. sum_by (λ v. cond (has_item (side k) v) (f v) 0) (range_with_len 0 n))
-        (range_with_len 0 count)
-        (λ k h. let within = in-run count k h in
-        sum-listed f n (side k) (parts.ascend k within) (λ v c. (parts.passes v k within c).0)) in
+    (range_with_len 0 count)
+    (λ k h. let within = in-run count k h in
+    sum-listed f n (side k) (parts.ascend k within) (λ v c. (parts.passes v k within c).0)) in
     let turned = sum-turned (λ k v. cond (has_item (side k) v) (f v) 0) (range_with_len 0 count) (range_with_len 0 n) in
     let each = sum-same (λ v. sum_by (λ k. cond (has_item (side k) v) (f v) 0) (range_with_len 0 count)) (λ v. cond (has v) (f v) 0)
-        (range_with_len 0 n) (λ v h. one-side f has n count side parts v (in-run n v h)) in
+    (range_with_len 0 n) (λ v h. one-side f has n count side parts v (in-run n v h)) in
     listed ∙ turned ∙ each ∙ sym (sum-passing f has (range_with_len 0 n))

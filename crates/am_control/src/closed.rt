@@ -68,8 +68,12 @@ impl<'a> Closed<'a> {
         ensures flow { result.flow ≡ flow }
         ensures block { result.block ≡ block }
     {
-        let came = self.control.passed(self.control.entering(scope), flow, block);
-        let went = self.control.passed(self.control.leaving(scope), flow, block);
+        let came = self
+            .control
+            .passed(self.control.entering(scope), flow, block);
+        let went = self
+            .control
+            .passed(self.control.leaving(scope), flow, block);
         row_of(scope, flow, block, &came, &went)
     }
 }

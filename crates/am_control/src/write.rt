@@ -1,6 +1,6 @@
 //! The loss table as text.
 
-ghost use Rattle.std.specs.Prelude.{◌≡◌, ◌<◌, ◌≤◌, ◌++◌, ℕ, List, Option, map, OnOk, OnErr, IfOk, IfErr, length, string_bytes};
+ghost use Rattle.std.specs.Prelude.{◌≡◌, ◌<◌, ◌≤◌, ◌++◌, ℕ, List, Option, map, OnOk, OnErr, IfOk, IfErr, length, codes, decimal, string_bytes};
 ghost use Rattle.std.specs.Io.KnownBytes.{append_known};
 ghost use Rattle.std.specs.Fmt.{signed_decimal};
 ghost use Rattle.am_base.specs.Sinks.{AppendsFront};
@@ -61,32 +61,19 @@ fn line_of(alloc: Global, flows: &[Flow], row: &LossRow) -> Result<String, Alloc
     requires { row.now.flow < length flows.now }
     ensures { IfOk result (λ text. string_bytes text ≡ loss_line flows.now row.now) }
 {
-    let name = name_of(flows, row.flow);
     let mut text = String::new(alloc);
     push_scope(&mut text, row.scope)?;
-    write!(text, ",{name},{},{},{},", row.block, row.entered, row.left)?;
+    push_name(&mut text, flows, row.flow)?;
+    push_number(&mut text, row.block)?;
+    push_number(&mut text, row.entered)?;
+    push_number(&mut text, row.left)?;
     push_lost(&mut text, row.lost)?;
-    text.push_str(",")?;
     push_delay(&mut text, row.delay)?;
-    write!(text, ",{},{},", row.d_entered, row.d_left)?;
+    push_number(&mut text, row.d_entered)?;
+    push_number(&mut text, row.d_left)?;
     push_delay(&mut text, row.d_delay)?;
     text.push_str("\n")?;
     Ok(text)
-}
-
-// The name of the flow of this number.
-fn name_of(flows: &[Flow], number: u32) -> &str
-    requires { number < length flows.now }
-    ensures { result.now ≡ named_flow flows.now number }
-{
-    flows[number as usize].name()
-}
-
-// Adds how many were lost.
-fn push_lost(text: &mut String, lost: i64) -> Result<(), AllocError>
-    ensures { OnOk result (string_bytes text.new ≡ string_bytes text.old ++ signed_decimal lost) }
-{
-    write!(text, "{lost}")
 }
 
 // Adds a cluster's number, or the word for the network.
@@ -99,12 +86,39 @@ fn push_scope(text: &mut String, scope: Scope) -> Result<(), AllocError>
     }
 }
 
-// Adds a delay, or a hyphen where there is none.
+// Adds the name of the flow of this number, behind a comma.
+fn push_name(text: &mut String, flows: &[Flow], number: u32) -> Result<(), AllocError>
+    requires { number < length flows.now }
+    ensures { OnOk result (string_bytes text.new
+        ≡ string_bytes text.old ++ (codes "," ++ named_flow flows.now number)) }
+{
+    text.push_str(",")?;
+    text.push_str(flows[number as usize].name())
+}
+
+// Adds a number, behind a comma.
+fn push_number(text: &mut String, number: u64) -> Result<(), AllocError>
+    ensures { OnOk result
+        (string_bytes text.new ≡ string_bytes text.old ++ (codes "," ++ decimal number)) }
+{
+    write!(text, ",{number}")
+}
+
+// Adds how many were lost, behind a comma.
+fn push_lost(text: &mut String, lost: i64) -> Result<(), AllocError>
+    ensures { OnOk result
+        (string_bytes text.new ≡ string_bytes text.old ++ (codes "," ++ signed_decimal lost)) }
+{
+    write!(text, ",{lost}")
+}
+
+// Adds a delay, or a hyphen where there is none, behind a comma.
 fn push_delay(text: &mut String, delay: Option<i128>) -> Result<(), AllocError>
-    ensures { OnOk result (string_bytes text.new ≡ string_bytes text.old ++ delay_text delay) }
+    ensures { OnOk result
+        (string_bytes text.new ≡ string_bytes text.old ++ (codes "," ++ delay_text delay)) }
 {
     match delay {
-        Some(delay) => write!(text, "{delay}"),
-        None => text.push_str("-"),
+        Some(delay) => write!(text, ",{delay}"),
+        None => text.push_str(",-"),
     }
 }

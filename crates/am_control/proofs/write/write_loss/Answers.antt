@@ -43,9 +43,9 @@ returns-in_default-write-2-clause-front g c =
     let part = loss_columns ++ flat_map line (take k rows) in
     let more = loss_columns ++ flat_map line (take (k + 1) rows) in
     let text : c.as_bytes-in-loop-k.result.now ≡ line c.row-row.result
-        = c.as_bytes-in-loop-k.ensures.value ∙ c.in-Ok-line_of.ensures ∙ ap (λ fs. loss_line fs c.row-row.result) c.flows.ensures.value in
+    = c.as_bytes-in-loop-k.ensures.value ∙ c.in-Ok-line_of.ensures ∙ ap (λ fs. loss_line fs c.row-row.result) c.flows.ensures.value in
     let next : part ++ c.as_bytes-in-loop-k.result.now ≡ more
-        = ap (λ t. part ++ t) text ∙ piece-more line loss_columns rows k c.row-row.result c.row-row.ensures.value in
+    = ap (λ t. part ++ t) text ∙ piece-more line loss_columns rows k c.row-row.result c.row-row.ensures.value in
     front-of-front start new (loss_columns ++ flat_map line rows) more (flat_map line (drop (k + 1) rows)) (pieces-front line loss_columns rows (k + 1))
     (subst (λ t. AppendsFront start new t) next (c.in_default-write-2.ensures.front start part c.loop-k.invariant.handed))
 
@@ -59,9 +59,9 @@ loop-k-preserved g c =
     let part = loss_columns ++ flat_map line (take k rows) in
     let more = loss_columns ++ flat_map line (take (k + 1) rows) in
     let text : c.as_bytes-in-loop-k.result.now ≡ line c.row-row.result
-        = c.as_bytes-in-loop-k.ensures.value ∙ c.in-Ok-line_of.ensures ∙ ap (λ fs. loss_line fs c.row-row.result) c.flows.ensures.value in
+    = c.as_bytes-in-loop-k.ensures.value ∙ c.in-Ok-line_of.ensures ∙ ap (λ fs. loss_line fs c.row-row.result) c.flows.ensures.value in
     let next : part ++ c.as_bytes-in-loop-k.result.now ≡ more
-        = ap (λ t. part ++ t) text ∙ piece-more line loss_columns rows k c.row-row.result c.row-row.ensures.value in
+    = ap (λ t. part ++ t) text ∙ piece-more line loss_columns rows k c.row-row.result c.row-row.ensures.value in
     record {
       handed = subst (λ t. IsWrittenOf start new c.write-in-loop-k.new.self t) next (c.in-Ok-write-2.ensures.all start part c.loop-k.invariant.handed);
       faults_stay = omega (arith, c.loop-k.invariant.faults_stay, c.write-in-loop-k.ensures.faults_stay);
