@@ -35,8 +35,8 @@ side_cell cells flow block side = record {
   dsum = sum_over (λ c. c.dsum) cells flow block side;
 }
 
--- the delay of all packets together, where as many left as entered: the sum of the offsets of those that left, less that
--- of those that entered (RFC 9341, section 3.2)
+-- the delay of all packets together, where as many left as entered: the sum of the offsets of those that left, less
+-- that of those that entered (RFC 9341, section 3.2)
 abbrev pub delay_between : ℕ → ℕ → ℕ → ℕ → Option ℤ
 delay_between entered left in_sum out_sum = if entered == left then Some (pos out_sum -ℤ pos in_sum) else None
 

@@ -9,7 +9,8 @@ use std::alloc::{AllocError, Global};
 
 /// The nodes, of so many, at which no link ends.
 pub(crate) fn entries_of(alloc: Global, edges: &[Edge], nodes: u32) -> Result<Vec<u32>, AllocError>
-    ensures { IfOk result (λ v. v.items ≡ nodes_without (network.has_links_in edges.now) nodes) }
+    ensures { IfOk result (λ v.
+        v.items ≡ nodes_without (network.has_links_in edges.now) nodes) }
 {
     let mut entries = Vec::new(alloc);
     for node in 0..nodes {
@@ -22,7 +23,8 @@ pub(crate) fn entries_of(alloc: Global, edges: &[Edge], nodes: u32) -> Result<Ve
 
 /// The nodes, of so many, at which no link begins.
 pub(crate) fn exits_of(alloc: Global, edges: &[Edge], nodes: u32) -> Result<Vec<u32>, AllocError>
-    ensures { IfOk result (λ v. v.items ≡ nodes_without (network.has_links_out edges.now) nodes) }
+    ensures { IfOk result (λ v.
+        v.items ≡ nodes_without (network.has_links_out edges.now) nodes) }
 {
     let mut exits = Vec::new(alloc);
     for node in 0..nodes {

@@ -4,7 +4,7 @@ ghost use Rattle.std.specs.Prelude.{◌≡◌, ◌<◌, OnOk};
 ghost use Rattle.am_control.specs.Controls.{IsControlOf};
 
 use crate::{Control, ControlError, write_loss};
-use am_base::MemSink;
+use am_base::{MemSink, OutError};
 use am_cells::{Cell, Cells, MAX_COUNT, Row};
 use am_domain::{Domain, read_domain};
 use std::alloc::{AllocError, Global};
@@ -106,12 +106,12 @@ fn takes(
     }
 }
 
-// The reports of the nodes, in their order, give the table with these rows.
-fn has_table(
+// Writes the table of the reports of the nodes, in their order; false where that can't be, and after a fault.
+fn prints(
     alloc: Global,
     file: &str,
     reports: &[&[Row]],
-    wanted: &str,
+    out: &mut MemSink,
 ) -> Result<bool, AllocError> {
     if file.len() > 1_048_576 {
         return Ok(false);
@@ -128,13 +128,25 @@ fn has_table(
     let Ok(closed) = control.finish() else {
         return Ok(false);
     };
-    let mut out = MemSink::new(alloc, 4096, Vec::new(alloc))?;
-    if write_loss(alloc, &domain, &closed, &mut out).is_err() {
-        return Ok(false);
+    match write_loss(alloc, &domain, &closed, out) {
+        Ok(()) => Ok(true),
+        Err(OutError::Memory) => Err(AllocError),
+        Err(OutError::Fault) => Ok(false),
     }
+}
+
+// The table of the reports of the nodes has these rows.
+fn has_table(
+    alloc: Global,
+    file: &str,
+    reports: &[&[Row]],
+    wanted: &str,
+) -> Result<bool, AllocError> {
+    let mut out = MemSink::new(alloc, 4096, Vec::new(alloc))?;
+    let printed = prints(alloc, file, reports, &mut out)?;
     let mut text = String::from_str(alloc, COLUMNS)?;
     text.push_str(wanted)?;
-    Ok(out.bytes() == text.as_bytes())
+    Ok(printed && out.bytes() == text.as_bytes())
 }
 
 // Two nodes, three blocks. Of block 1 a packet is lost, so there is no delay, but none with the delay bit.
@@ -233,6 +245,21 @@ network,w,0,1,1,0,0,0,0,0
 network,w,1,0,0,0,0,0,0,0
 ";
     assert!(rt; has_table(alloc, file.as_str(), &[&first, &second], wanted)?);
+    Ok(())
+}
+
+// Where the output fails, a front of the table is left.
+#[test]
+fn a_fault_leaves_a_front(rt: HostRuntime) -> Result<(), Fail> {
+    let alloc = rt.alloc();
+    let file = file_of(alloc, "v", "ab", &[['a', 'b']], 15)?;
+    let reports: [&[Row]; 2] = [&[], &[]];
+    let mut full = MemSink::new(alloc, 10, Vec::new(alloc))?;
+    assert!(rt; !prints(alloc, file.as_str(), &reports, &mut full)?);
+    assert!(rt; full.bytes() == b"scope,flow");
+    let mut failing = MemSink::new(alloc, 4096, Vec::from_slice(alloc, &[1])?)?;
+    assert!(rt; !prints(alloc, file.as_str(), &reports, &mut failing)?);
+    assert!(rt; failing.bytes() == b"");
     Ok(())
 }
 
