@@ -1,0 +1,6 @@
+pub mod SumLemmas
+pub mod RowLemmas
+pub mod TextLemmas
+pub mod SideLemmas
+pub mod ReportLemmas
+pub mod LossLemmas

@@ -1,0 +1,19 @@
+use Rattle.std.proofs.Common.{◌≡◌, ◌∙◌, ◌∷◌, [], ◌++◌, true, false, rules, sym, ap}
+use Rattle.am_domain.specs.Network.{has_links_out}
+use Rattle.am_control.proofs.SideLemmas.{without-keeps, without-adds}
+use Rattle.am_control.proofs.sides.exits_of.Goals as goal
+use Rattle.am_control.proofs.sides.exits_of.Goals.{then-not-has_links_out+in_ok-push, else-not-has_links_out}
+
+pub loop-node-preserved : goal.loop-node-preserved
+loop-node-preserved c =
+    let node = c.loop-node.node in
+    let has = has_links_out c.args.edges.now in
+    elim c.if-not-has_links_out.branch [
+      | then-not-has_links_out+in_ok-push w ↦
+          let away : has node ≡ false = search rules in
+          ap (λ v. v.items) w.exits-is ∙ w.in_ok-push.ensures.items ∙ ap (λ xs. xs ++ node ∷ []) c.loop-node.invariant
+          ∙ sym (without-adds has node away)
+      | else-not-has_links_out w ↦
+          let there : has node ≡ true = search rules in
+          ap (λ v. v.items) w.exits-is ∙ c.loop-node.invariant ∙ sym (without-keeps has node there)
+    ]

@@ -1,0 +1,5 @@
+pub mod Plans
+pub mod Rows
+pub mod Texts
+pub mod Controls
+pub mod Writing

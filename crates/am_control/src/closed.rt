@@ -1,0 +1,79 @@
+//! The loss table of a controller that has the reports of all nodes.
+
+ghost use Rattle.std.specs.Prelude.{◌≡◌, ◌<◌, Some, length, slice_get};
+ghost use Rattle.am_control.specs.Controls.{HasRow, IsComplete, IsScope, measured_of};
+ghost use Rattle.am_control.specs.Rows.{loss_row, loss_rows};
+
+use crate::control::Control;
+use crate::row::{LossRow, Scope, row_of};
+use std::marker::Model;
+
+/// The reports of all nodes of a domain, and the rows of the loss table that they give.
+#[derive(Drop)]
+pub struct Closed<'a> {
+    control: &'a Control,
+}
+
+impl<'a> Model for Closed<'a> {
+    ghost use Rattle.am_control.specs.Controls.{IsComplete, measured_of};
+    ghost use Rattle.am_control.specs.Rows.{Measured};
+
+    ghost Value = { Measured };
+
+    ghost view = { λ c. measured_of c.control.now };
+
+    ghost invariant = { λ c. IsComplete c.control.now };
+}
+
+impl<'a> Closed<'a> {
+    // The table of a controller that has all reports.
+    pub(crate) fn of(control: &'a Control) -> Closed<'a>
+        requires { IsComplete control.now }
+        ensures { result ≡ measured_of control.now }
+    {
+        Closed { control }
+    }
+
+    /// How many rows there are: one for each scope, flow and reported block.
+    pub fn rows(&self) -> u64
+        ensures { result ≡ length (loss_rows self.now) }
+    {
+        let scopes = u64::from(self.control.clusters()) + 1;
+        scopes * u64::from(self.control.flows()) * (self.control.end() - self.control.first())
+    }
+
+    /// The row of this number, counted from 0: the clusters come first, then the network; in each the flows; and in
+    /// each of these the reported blocks, ascending.
+    pub fn row(&self, k: u64) -> LossRow
+        requires { k < length (loss_rows self.now) }
+        ensures value { slice_get (loss_rows self.now) k ≡ Some result }
+        ensures there { HasRow self.now.plan result.flow result.block }
+    {
+        let blocks = self.control.end() - self.control.first();
+        let flows = u64::from(self.control.flows());
+        let scope = k / blocks / flows;
+        let flow = k / blocks % flows;
+        let block = self.control.first() + k % blocks;
+        if scope < u64::from(self.control.clusters()) {
+            return self.row_at(Scope::Cluster(scope as u32), flow as u32, block);
+        }
+        self.row_at(Scope::Network, flow as u32, block)
+    }
+
+    // The row of a scope, a flow and a block.
+    fn row_at(&self, scope: Scope, flow: u32, block: u64) -> LossRow
+        requires scope { IsScope self.now.plan scope }
+        requires there { HasRow self.now.plan flow block }
+        ensures value { result ≡ loss_row self.now scope flow block }
+        ensures flow { result.flow ≡ flow }
+        ensures block { result.block ≡ block }
+    {
+        let came = self
+            .control
+            .passed(self.control.entering(scope), flow, block);
+        let went = self
+            .control
+            .passed(self.control.leaving(scope), flow, block);
+        row_of(scope, flow, block, &came, &went)
+    }
+}
