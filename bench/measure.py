@@ -4,14 +4,16 @@
     measure.py PROGRAM FOLDER NETWORK [PAIR..]
 
 FOLDER has the built programs `captures`, `spawn` and `tight`, and gets a folder for each pair, of which the big files are removed
-once it is measured. NETWORK is the script that writes domain files, and `domain` names the one beside the pairs. A pair is
-measured only where every table is right, and the domain file where its summary is. All output goes to /dev/null while it is
+once it is measured. NETWORK is the script that writes domain files, and `domain` names the one beside the pairs; `flows`
+are two domain files, of 1,024 flows and of one. A pair is measured only where every table is right, the domain file where its
+summary is, and the flows where what `strip` writes is. All output goes to /dev/null while it is
 measured. The files were just written and read, so they come from memory. Runs take turns, and the least time of each counts,
 since whatever else the machine does can only add to it. The status is 0 where everything that was printed is right.
 """
 import os
 import platform
 import shutil
+import struct
 import subprocess
 import sys
 from dataclasses import dataclass, field
@@ -49,6 +51,13 @@ DOMAIN = "domain"
 MOST = ["128", "1024", "1024"]
 DOMAIN_ROUNDS = 41
 DOMAIN_TIME = 1_000_000_000
+
+# The flows that marks are looked up in: so many, or the last of them alone; and how many times the time of one these should take at most.
+FLOWS = "flows"
+MANY = 1024
+FLOW_RECORDS = 300_000
+FLOW_ROUNDS = 21
+MOST_TO_ONE = 8.0
 
 
 @dataclass
@@ -269,6 +278,93 @@ class MeasuredDomain:
         return "| " + " | ".join(cell.strip() for cell in cells) + " |"
 
 
+class MeasuredFlows:
+    """A capture whose records have marks of the last of many flows, and the runs of `strip` over it, with all flows and with that one."""
+
+    def __init__(self, bench):
+        self.bench = bench
+        self.folder = os.path.join(bench.folder, FLOWS)
+        self.runs = {(flows, capture): Runs() for flows in ("many", "one") for capture in ("none", "marked")}
+
+    def make(self):
+        os.makedirs(self.folder, exist_ok=True)
+        for name, flows in (("many", range(MANY)), ("one", [MANY - 1])):
+            with open(os.path.join(self.folder, name + ".toml"), "w") as file:
+                file.write(domain_of(flows))
+        head = struct.pack("<IHHiIII", 0xA1B23C4D, 2, 4, 0, 0, 262144, 101)
+        addresses = prefix_of(1, MANY - 1) + b"\0" * 7 + b"\1" + prefix_of(2, MANY - 1) + b"\0" * 7 + b"\1"
+        mark = struct.pack(">BBBBI", 17, 0, 0x12, 4, id_of(MANY - 1) << 12)
+        marked = struct.pack(">IHBB", 0x60000000, 24, 0, 64) + addresses + mark + b"\0" * 16
+        plain = struct.pack(">IHBB", 0x60000000, 16, 17, 64) + addresses + b"\0" * 16
+        for name, packet, records in (("none", b"", 0), ("marked", marked, FLOW_RECORDS), ("stripped", plain, FLOW_RECORDS)):
+            with open(os.path.join(self.folder, name + ".pcap"), "wb") as file:
+                file.write(head)
+                for number in range(records):
+                    file.write(struct.pack("<IIII", 1_700_000_000 + number // 1000, number % 1000, len(packet), len(packet)) + packet)
+
+    def remove(self):
+        for name in ("marked", "stripped", "printed"):
+            path = os.path.join(self.folder, name + ".pcap")
+            if os.path.exists(path):
+                os.remove(path)
+
+    def words(self, flows, capture):
+        return [self.bench.program, "strip", flows + ".toml", capture + ".pcap"]
+
+    def is_right(self):
+        """Whether the marks come out with all flows and with one."""
+        printed = os.path.join(self.folder, "printed.pcap")
+        for flows in ("many", "one"):
+            self.bench.run(self.words(flows, "marked"), self.folder, printed)
+            if not same(printed, os.path.join(self.folder, "stripped.pcap")):
+                print(f"  strip with {flows}: wrong")
+                return False
+        print("  strip: right")
+        return True
+
+    def measure(self):
+        for _ in range(FLOW_ROUNDS):
+            for names, runs in self.runs.items():
+                runs.add(*self.bench.run(self.words(*names), self.folder))
+
+    def took(self, flows):
+        """Nanoseconds for the records alone."""
+        return self.runs[flows, "marked"].took - self.runs[flows, "none"].took
+
+    def tell(self):
+        ratio = self.took("many") / self.took("one")
+        print(f"  strip, {MANY:,} flows:  {self.took('many') / FLOW_RECORDS:7.1f} ns a record")
+        print(f"  strip, one flow:        {self.took('one') / FLOW_RECORDS:7.1f} ns a record")
+        print(f"  many / one:             {ratio:.2f} (target: at most {MOST_TO_ONE:.0f}: {met(ratio <= MOST_TO_ONE)})")
+
+    def row(self, about):
+        """The row of the flows' table in README.md."""
+        times = [f"{self.took(flows) / FLOW_RECORDS:.1f} ns" for flows in ("many", "one")]
+        return "| " + " | ".join([*about, *times, f"{self.took('many') / self.took('one'):.2f}"]) + " |"
+
+
+def id_of(flow):
+    return flow * 1021
+
+
+def prefix_of(end, flow):
+    """The first 64 bits of a flow's addresses at one end."""
+    return struct.pack(">HHHH", 0x2001, 0xDB8, end, flow)
+
+
+def domain_of(flows):
+    """A domain file of these flows, from one node to another."""
+    text = ["[timing]\nblock_ns = 10000000000\nskew_ns = 2000000\ndelay_min_ns = 1000000\ndelay_max_ns = 200000000\n"]
+    text.append('[marking]\nplace = "hop-by-hop"\n')
+    for flow in flows:
+        ends = "".join(f'{key} = "2001:db8:{end}:{flow:x}::/64"\n' for end, key in ((1, "source"), (2, "destination")))
+        text.append(f'[[flow]]\nname = "flow-{flow}"\nid = {id_of(flow)}\n{ends}')
+    for name in "ab":
+        text.append(f'[[node]]\nname = "{name}"\ncapture = "{name}.pcap"\nfrom_ns = 1700000000000000000\nuntil_ns = 1700000100000000000\n')
+    text.append('[[link]]\nfrom = "a"\nto = "b"\n')
+    return "\n".join(text)
+
+
 def ms(runs):
     return f"{runs.took / 1e6:7.1f} ms"
 
@@ -311,13 +407,13 @@ def judge(each):
 
 
 def main(program, folder, network, *names):
-    known = [*(pair.name for pair in PAIRS), DOMAIN]
+    known = [*(pair.name for pair in PAIRS), DOMAIN, FLOWS]
     for name in names:
         if name not in known:
             sys.exit(f"bench: there is no '{name}'; there are: {' '.join(known)}")
     names = names or known
     bench = Bench(program, folder)
-    if not bench.tcpdump and list(names) != [DOMAIN]:
+    if not bench.tcpdump and not set(names) <= {DOMAIN, FLOWS}:
         print("tcpdump: skipped, since none is installed that has --count")
     measured, wrong = [], 0
     for pair in PAIRS:
@@ -341,6 +437,16 @@ def main(program, folder, network, *names):
             measured.append(each)
         else:
             wrong += 1
+    if FLOWS in names:
+        print(f"{FLOWS}: {FLOW_RECORDS:,} records of 64 bytes with marks of the last of {MANY:,} flows", flush=True)
+        each = MeasuredFlows(bench)
+        try:
+            if judge(each):
+                measured.append(each)
+            else:
+                wrong += 1
+        finally:
+            each.remove()
     if measured:
         print("rows for bench/README.md:")
         words = about()

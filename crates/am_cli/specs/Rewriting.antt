@@ -1,5 +1,5 @@
 -- What `mark` and `strip` write of a capture: its file header as it is, then each record, changed or as it is.
-use Rattle.std.specs.Prelude.{◌≡◌, ◌⊎◌, ◌+◌, ◌-◌, ◌<◌, ◌≤◌, ℕ, Bool, List, [], ◌∷◌, ◌++◌, take, drop, length, flat_map}
+use Rattle.std.specs.Prelude.{◌≡◌, ℕ, List, [], ◌∷◌, ◌++◌, take, drop, flat_map}
 use Rattle.am_ip6.specs.Fixed.{IsFixed, parts_of}
 use Rattle.am_pcap.specs.Packets.{Packet}
 use Rattle.am_pcap.specs.Spelling.{record_bytes}

@@ -1,22 +1,19 @@
 -- What the parts of `show` add to a line.
-use Rattle.std.specs.Prelude.{◌≡◌, ℕ, Bool, List, ◌++◌}
-use Rattle.am_pcap.specs.Packets.{Packet}
-use Rattle.am_pcap.specs.Frames.{IsFramed}
-use Rattle.am_pcap.specs.declared.frame.Frame.{Frame}
-use Rattle.am_pcap.specs.declared.frame.LinkKind.{LinkKind}
-use Rattle.am_pcap.specs.CaptureFiles.{is_whole}
-use Rattle.am_cli.specs.Lines.{IsFrameText, IsPacketText}
+use Rattle.std.specs.Prelude.{◌≡◌, ℕ, Bool, List, ◌++◌, Option, Some, None, codes, decimal}
+use Rattle.am_opts.specs.Marking.{Marking, bit}
+use Rattle.am_cli.specs.Lines.{IsPacketText}
 
--- a line grew by what a record holds
-pub record AddsFrame (link : LinkKind) (p : Packet) (old new : List ℕ) : Type 0 where
-  pub frame : Frame
-  pub held : List ℕ
-  pub framed : IsFramed link p.bytes (is_whole p) frame
-  pub text : IsFrameText p frame held
-  pub added : new ≡ old ++ held
+-- a mark: flow, loss bit and delay bit
+abbrev pub mark_text : Marking → List ℕ
+mark_text m = decimal m.flow ++ codes "/" ++ decimal (bit m.loss) ++ codes "/" ++ decimal (bit m.delay)
 
--- a line grew by an IPv6 packet
-pub record AddsPacket (packet : List ℕ) (whole : Bool) (old new : List ℕ) : Type 0 where
+-- a packet without a header, or with one, of eight bytes with this mark; and this number behind
+abbrev pub brief_text : Option Marking → ℕ → List ℕ
+brief_text None next = codes "ip6 =" ++ decimal next ++ codes " - -"
+brief_text (Some m) next = codes "ip6 0:8,=" ++ decimal next ++ codes " " ++ mark_text m ++ codes " -"
+
+-- a text grew by the line of a record that begins so and holds this packet
+pub record AddsPacket (start packet : List ℕ) (whole : Bool) (old new : List ℕ) : Type 0 where
   pub held : List ℕ
   pub text : IsPacketText packet whole held
-  pub added : new ≡ old ++ held
+  pub added : new ≡ old ++ (start ++ held ++ codes "\n")

@@ -14,6 +14,7 @@ mod printing;
 mod rewriting;
 mod run;
 mod table;
+mod tail;
 #[cfg(test)]
 mod tests;
 mod words;

@@ -6,5 +6,6 @@ pub mod MarkLemmas
 pub mod SeenLemmas
 pub mod Yields
 pub mod Lone
+pub mod BriefLemmas
 pub mod SeenOnce
 pub mod Exists

@@ -7,3 +7,4 @@ pub mod Left
 pub mod Marks
 pub mod Seen
 pub mod Laws
+pub mod Brief

@@ -10,6 +10,7 @@
 //! or copies a byte of a header.
 #![tactic(auto)]
 
+mod brief;
 mod chain;
 mod fixed_header;
 mod headers;
@@ -19,6 +20,7 @@ mod options;
 #[cfg(test)]
 mod tests;
 
+pub use brief::Brief;
 pub use chain::{Ending, Header};
 pub use fixed_header::Fixed;
 pub use headers::{Walk, walk_ending};

@@ -3,7 +3,8 @@
 //! A mark stands in a Hop-by-Hop Options header, or in a Destination Options header. The first one in
 //! headers of the wanted kind counts.
 
-ghost use Rattle.std.specs.Prelude.{◌≡◌, ◌≢◌, ◌≤◌, length, IfSome, MatchOption};
+ghost use Rattle.std.specs.Prelude.{◌≡◌, ◌≢◌, ◌≤◌, length, IfSome, IfNone, MatchOption};
+ghost use Rattle.am_opts.specs.Marking.{Marking};
 ghost use Rattle.am_ip6.specs.Marks.{Seen, HasLoneMark, ShowsMark, MarksHeader, IsPassed};
 ghost use Rattle.am_ip6.specs.Shown.{lent, ending_shown};
 ghost use Rattle.am_ip6.specs.Seen.{seen_shown, IsUnlessCut, SeenInEach, IsSeen};
@@ -78,9 +79,10 @@ fn find_in_hop_by_hop(bytes: &[u8], whole: bool) -> Found
 }
 
 // The mark in a first header of eight bytes that has no other option.
-fn lone_mark(bytes: &[u8]) -> Option<Mark>
+pub(crate) fn lone_mark(bytes: &[u8]) -> Option<Mark>
     requires { 40 ≤ length bytes.now }
-    ensures { IfSome result (λ mark. HasLoneMark bytes.now mark) }
+    ensures has { IfSome result (λ mark. HasLoneMark bytes.now mark) }
+    ensures none { IfNone result ((mark : Marking) → HasLoneMark bytes.now mark → ⊥) }
 {
     if bytes.len() < LONE_MARK_END || bytes[41] != 0 || payload(bytes) < 8 {
         return None;

@@ -1,6 +1,6 @@
 //! Packets of each ending, and marks in each kind of header, byte by byte.
 
-use crate::{Ending, Fixed, Found, Place, Walk, find_mark, walk_ending};
+use crate::{Brief, Ending, Fixed, Found, Place, Walk, find_mark, walk_ending};
 use std::alloc::{AllocError, Global};
 
 // A packet: the fixed header with this payload length and next header, and these bytes behind it.
@@ -202,4 +202,34 @@ fn marks_are_found_in_their_kind(rt: HostRuntime) {
         seen(alloc, 8, 60, b"\x3b", false, Place::Destination).expect(&rt, "memory"),
         cut
     );
+}
+
+// What a packet of few headers is: the flow of its mark, and the number behind its headers.
+fn brief(
+    alloc: Global,
+    payload: u8,
+    next: u8,
+    behind: &[u8],
+) -> Result<Option<(Option<u32>, u8)>, AllocError> {
+    let bytes = packet(alloc, payload, next, behind)?;
+    Ok(match Brief::read(&bytes) {
+        Some(brief) => Some((brief.mark.map(|mark| mark.flow()), brief.next)),
+        None => None,
+    })
+}
+
+#[test]
+fn packets_of_few_headers_are_told(rt: HostRuntime) {
+    let alloc = rt.alloc();
+    let none = brief(alloc, 0, 59, b"").expect(&rt, "memory");
+    assert_eq!(rt; none, Some((None, 59)));
+    let lone = brief(alloc, 8, 0, b"\x11\x00\x12\x04\x12\x34\x58\x00").expect(&rt, "memory");
+    assert_eq!(rt; lone, Some((Some(0x12345), 17)));
+    // a Routing header behind it, a header without a mark, and one that isn't a Hop-by-Hop header
+    let two = brief(alloc, 8, 0, b"\x2b\x00\x12\x04\x12\x34\x58\x00").expect(&rt, "memory");
+    assert_eq!(rt; two, None);
+    let padded = brief(alloc, 8, 0, b"\x3b\x00\x01\x04\x00\x00\x00\x00").expect(&rt, "memory");
+    assert_eq!(rt; padded, None);
+    let other = brief(alloc, 8, 60, b"\x3b\x00\x12\x04\x12\x34\x58\x00").expect(&rt, "memory");
+    assert_eq!(rt; other, None);
 }

@@ -1,24 +1,25 @@
 //! The command `show`: what each record of a capture says, a line a record.
-ghost use Rattle.std.specs.Prelude.{◌≡◌, ◌++◌, ◌∷◌, [], ℕ, ⊤, List, map, string_bytes, OnOk, IfSome, IfNone, flat_map, codes, decimal};
+ghost use Rattle.std.specs.Prelude.{◌≡◌, ◌+◌, ◌≤◌, ◌++◌, ◌∷◌, [], ℕ, ⊤, List, length, map, string_bytes, OnOk, IfSome, IfNone, flat_map, codes, decimal};
 ghost use Rattle.am_opts.specs.Marking.{bit};
 ghost use Rattle.am_ip6.specs.Chains.{Lent, HasHeaders};
 ghost use Rattle.am_ip6.specs.Shown.{ending_shown};
 ghost use Rattle.am_ip6.specs.Seen.{seen_shown};
 ghost use Rattle.am_pcap.specs.Shown.{packet_shown};
 ghost use Rattle.am_cli.specs.Chains.{inputs, output, Performs};
-ghost use Rattle.am_cli.specs.Lines.{IsLine, header_text, ending_text, seen_text};
-ghost use Rattle.am_cli.specs.Showing.{AddsFrame, AddsPacket};
+ghost use Rattle.am_cli.specs.Lines.{IsLine, record_text, header_text, ending_text, seen_text};
+ghost use Rattle.am_cli.specs.Showing.{AddsPacket, mark_text, brief_text};
 ghost use Rattle.am_cli.specs.commands.Show.{Show, SaysShowWords, record_lines, show_chain};
 ghost use Rattle.am_cli.specs.Shown.{show_shown, answer_of};
 
 use crate::answer::{Stop, Unprinted};
 use crate::printing::{Printing, print_capture};
+use crate::tail::{MAX_TAIL, Tail};
 use crate::words::is_file_name;
 use am_base::{Shelf, Sink};
-use am_ip6::{Ending, Found, Place, Walk, find_mark, walk_ending};
-use am_pcap::{Frame, Head, LinkKind, Record, packet_of};
+use am_ip6::{Brief, Ending, Found, Place, Walk, find_mark, walk_ending};
+use am_opts::Mark;
+use am_pcap::{Form, Frame, Head, Record, packet_of};
 use std::alloc::{AllocError, Global};
-use std::fmt::Write;
 
 /// What `show` is asked.
 #[derive(Clone, Copy)]
@@ -53,32 +54,32 @@ fn file_word(file: &str) -> Option<ShowWords<'_>>
 struct RecordLines;
 
 impl Printing for RecordLines {
-    type State = String;
+    type State = Vec<u8>;
 
     ghost stream = { λ p. record_lines };
 
     ghost knows = { λ p line h ps. ⊤ };
 
-    ghost piece = { λ p line. string_bytes line };
+    ghost piece = { λ p line. line.items };
 
-    fn begin(&self, alloc: Global, _head: &Head) -> Result<String, AllocError> {
-        Ok(String::new(alloc))
+    fn begin(&self, alloc: Global, _head: &Head) -> Result<Vec<u8>, AllocError> {
+        Ok(Vec::new(alloc))
     }
 
-    fn take(&self, line: &mut String, head: &Head, packet: &Record<'_>) -> Result<(), Unprinted> {
+    fn take(&self, line: &mut Vec<u8>, head: &Head, packet: &Record<'_>) -> Result<(), Unprinted> {
         match show_line(line, packet, head) {
             Ok(()) => Ok(()),
             Err(_) => Err(Unprinted::NoMemory),
         }
     }
 
-    fn finish(&self, line: &mut String, _head: &Head) -> Result<(), AllocError> {
+    fn finish(&self, line: &mut Vec<u8>, _head: &Head) -> Result<(), AllocError> {
         line.clear();
         Ok(())
     }
 
-    fn text<'a>(&self, line: &'a String) -> &'a [u8] {
-        line.as_bytes()
+    fn text<'a>(&self, line: &'a Vec<u8>) -> &'a [u8] {
+        line.as_slice()
     }
 }
 
@@ -99,69 +100,109 @@ pub fn show<S: Shelf, O: Sink>(
 }
 
 // The line of a record, in the place of what the text was.
-fn show_line(line: &mut String, packet: &Record<'_>, head: &Head) -> Result<(), AllocError>
+fn show_line(line: &mut Vec<u8>, packet: &Record<'_>, head: &Head) -> Result<(), AllocError>
     ensures { OnOk result
-        (IsLine head.now packet.now.number (packet_shown packet.now) (string_bytes line.new)) }
+        (IsLine head.now packet.now.number (packet_shown packet.now) line.new.items) }
 {
     line.clear();
-    push_record(
-        line,
-        packet.number,
-        packet.reading(head.form),
-        packet.bytes.len(),
-        packet.original,
-    )?;
-    push_frame(line, packet, head.link)?;
-    line.push_str("\n")?;
-    Ok(())
-}
-
-// Adds what stands first: the record's number, its reading, how many bytes were captured and how many the packet had.
-fn push_record(
-    line: &mut String,
-    number: u64,
-    reading: u64,
-    captured: usize,
-    original: u32,
-) -> Result<(), AllocError>
-    ensures { OnOk result (string_bytes line.new
-        ≡ string_bytes line.old ++ (decimal number ++ codes " " ++ decimal reading ++ codes " "
-        ++ decimal captured ++ codes " " ++ decimal original ++ codes " ")) }
-{
-    write!(line, "{number} {reading} {captured} {original} ")
-}
-
-// Adds what the record holds.
-fn push_frame(line: &mut String, packet: &Record<'_>, link: LinkKind) -> Result<(), AllocError>
-    ensures { OnOk result (AddsFrame link (packet_shown packet.now)
-        (string_bytes line.old) (string_bytes line.new)) }
-{
     let whole = packet.whole();
-    match packet_of(link, packet.bytes, whole) {
-        Frame::Ip6 { at } => push_packet(line, &packet.bytes[at..], whole),
-        Frame::Other => line.push_str("other"),
-        Frame::Cut => line.push_str("cut"),
+    match packet_of(head.link, packet.bytes, whole) {
+        Frame::Ip6 { at } => push_packet(line, packet, head.form, &packet.bytes[at..], whole),
+        Frame::Other => push_word(line, packet, head.form, b"other"),
+        Frame::Cut => push_word(line, packet, head.form, b"cut"),
     }
 }
 
-// Adds an IPv6 packet: its chain, and the mark in each kind of header.
-fn push_packet(line: &mut String, packet: &[u8], whole: bool) -> Result<(), AllocError>
-    ensures { OnOk result
-        (AddsPacket packet.now whole (string_bytes line.old) (string_bytes line.new)) }
+// Adds the line of a record that holds no IPv6 packet.
+fn push_word(
+    line: &mut Vec<u8>,
+    packet: &Record<'_>,
+    form: Form,
+    word: &[u8],
+) -> Result<(), AllocError>
+    requires { length word.now ≤ 5 }
+    ensures { OnOk result (line.new.items ≡ line.old.items
+        ++ (record_text form.nano packet.now.number (packet_shown packet.now)
+        ++ word.now ++ codes "\n")) }
 {
-    line.push_str("ip6 ")?;
-    push_headers(line, packet, whole)?;
-    push_ending(line, walk_ending(packet, whole))?;
-    line.push_str(" ")?;
-    push_found(line, &find_mark(packet, whole, Place::HopByHop))?;
-    line.push_str(" ")?;
-    push_found(line, &find_mark(packet, whole, Place::Destination))
+    let mut tail = Tail::new();
+    tail.put(b'\n');
+    tail.put_all(word);
+    put_record(&mut tail, packet, form);
+    line.extend_from_slice(tail.text())
+}
+
+// Adds the line of a record that holds this packet.
+fn push_packet(
+    line: &mut Vec<u8>,
+    packet: &Record<'_>,
+    form: Form,
+    bytes: &[u8],
+    whole: bool,
+) -> Result<(), AllocError>
+    ensures { OnOk result (AddsPacket
+        (record_text form.nano packet.now.number (packet_shown packet.now))
+        bytes.now whole line.old.items line.new.items) }
+{
+    match Brief::read(bytes) {
+        Some(brief) => push_brief(line, packet, form, brief),
+        None => push_walk(line, packet, form, bytes, whole),
+    }
+}
+
+// Adds the line of a record that holds a packet of few headers.
+fn push_brief(
+    line: &mut Vec<u8>,
+    packet: &Record<'_>,
+    form: Form,
+    brief: Brief,
+) -> Result<(), AllocError>
+    ensures { OnOk result (line.new.items ≡ line.old.items
+        ++ (record_text form.nano packet.now.number (packet_shown packet.now)
+        ++ brief_text brief.mark brief.next ++ codes "\n")) }
+{
+    let mut tail = Tail::new();
+    tail.put(b'\n');
+    put_brief(&mut tail, brief);
+    put_record(&mut tail, packet, form);
+    line.extend_from_slice(tail.text())
+}
+
+// Adds the line of a record that holds a packet of any headers, by the walk of its chain.
+#[inline(never)]
+fn push_walk(
+    line: &mut Vec<u8>,
+    packet: &Record<'_>,
+    form: Form,
+    bytes: &[u8],
+    whole: bool,
+) -> Result<(), AllocError>
+    ensures { OnOk result (AddsPacket
+        (record_text form.nano packet.now.number (packet_shown packet.now))
+        bytes.now whole line.old.items line.new.items) }
+{
+    push_start(line, packet, form)?;
+    push_headers(line, bytes, whole)?;
+    let hop = find_mark(bytes, whole, Place::HopByHop);
+    let destination = find_mark(bytes, whole, Place::Destination);
+    push_end(line, walk_ending(bytes, whole), &hop, &destination)
+}
+
+// Adds what stands before a packet's chain.
+fn push_start(line: &mut Vec<u8>, packet: &Record<'_>, form: Form) -> Result<(), AllocError>
+    ensures { OnOk result (line.new.items ≡ line.old.items
+        ++ (record_text form.nano packet.now.number (packet_shown packet.now) ++ codes "ip6 ")) }
+{
+    let mut tail = Tail::new();
+    tail.put_all(b"ip6 ");
+    put_record(&mut tail, packet, form);
+    line.extend_from_slice(tail.text())
 }
 
 // Adds the headers of a packet's chain.
-fn push_headers(line: &mut String, packet: &[u8], whole: bool) -> Result<(), AllocError>
+fn push_headers(line: &mut Vec<u8>, packet: &[u8], whole: bool) -> Result<(), AllocError>
     ensures { OnOk result ((hs : List Lent) × HasHeaders packet.now hs ×
-        (string_bytes line.new ≡ string_bytes line.old ++ flat_map header_text hs)) }
+        (line.new.items ≡ line.old.items ++ flat_map header_text hs)) }
 {
     for header in Walk::over(packet, whole) {
         push_header(line, header.kind, header.bytes.len())?;
@@ -170,51 +211,125 @@ fn push_headers(line: &mut String, packet: &[u8], whole: bool) -> Result<(), All
 }
 
 // Adds one header, and the comma behind it.
-fn push_header(line: &mut String, kind: u8, length: usize) -> Result<(), AllocError>
-    ensures { OnOk result (string_bytes line.new
-        ≡ string_bytes line.old ++ (decimal kind ++ codes ":" ++ decimal length ++ codes ",")) }
+fn push_header(line: &mut Vec<u8>, kind: u8, length: usize) -> Result<(), AllocError>
+    ensures { OnOk result (line.new.items
+        ≡ line.old.items ++ (decimal kind ++ codes ":" ++ decimal length ++ codes ",")) }
 {
-    write!(line, "{kind}:{length},")
+    let mut tail = Tail::new();
+    tail.put(b',');
+    tail.put_number(length as u64);
+    tail.put(b':');
+    tail.put_number(u64::from(kind));
+    line.extend_from_slice(tail.text())
 }
 
-// Adds how a chain ends.
-fn push_ending(line: &mut String, ending: Ending) -> Result<(), AllocError>
-    ensures { OnOk result
-        (string_bytes line.new ≡ string_bytes line.old ++ ending_text (ending_shown ending)) }
+// Adds how a chain ends, what is found of a mark in each kind of header, and the line's end.
+fn push_end(
+    line: &mut Vec<u8>,
+    ending: Ending,
+    hop: &Found,
+    destination: &Found,
+) -> Result<(), AllocError>
+    ensures { OnOk result (line.new.items ≡ line.old.items
+        ++ (ending_text (ending_shown ending) ++ codes " " ++ seen_text (seen_shown hop.now)
+        ++ codes " " ++ seen_text (seen_shown destination.now) ++ codes "\n")) }
+{
+    let mut tail = Tail::new();
+    tail.put(b'\n');
+    put_found(&mut tail, destination);
+    tail.put(b' ');
+    put_found(&mut tail, hop);
+    tail.put(b' ');
+    put_ending(&mut tail, ending);
+    line.extend_from_slice(tail.text())
+}
+
+// Puts what stands first: the record's number, its reading, how many bytes were captured and how many the packet had.
+fn put_record(tail: &mut Tail, packet: &Record<'_>, form: Form)
+    requires { length tail.old + 84 ≤ MAX_TAIL }
+    ensures { tail.new ≡ record_text form.nano packet.now.number (packet_shown packet.now)
+        ++ tail.old }
+{
+    tail.put(b' ');
+    tail.put_number(u64::from(packet.original));
+    tail.put(b' ');
+    tail.put_number(packet.bytes.len() as u64);
+    tail.put(b' ');
+    tail.put_number(packet.reading(form));
+    tail.put(b' ');
+    tail.put_number(packet.number);
+}
+
+// Puts a packet of few headers.
+fn put_brief(tail: &mut Tail, brief: Brief)
+    requires { length tail.old + 60 ≤ MAX_TAIL }
+    ensures text { tail.new ≡ brief_text brief.mark brief.next ++ tail.old }
+    ensures room { length tail.new ≤ length tail.old + 60 }
+{
+    match brief.mark {
+        Some(mark) => {
+            tail.put_all(b" -");
+            put_mark(tail, &mark);
+            tail.put(b' ');
+            tail.put_number(u64::from(brief.next));
+            tail.put_all(b"ip6 0:8,=");
+        }
+        None => {
+            tail.put_all(b" - -");
+            tail.put_number(u64::from(brief.next));
+            tail.put_all(b"ip6 =");
+        }
+    }
+}
+
+// Puts how a chain ends.
+fn put_ending(tail: &mut Tail, ending: Ending)
+    requires { length tail.old + 24 ≤ MAX_TAIL }
+    ensures text { tail.new ≡ ending_text (ending_shown ending) ++ tail.old }
+    ensures room { length tail.new ≤ length tail.old + 24 }
 {
     match ending {
-        Ending::End { next, .. } => write!(line, "={next}"),
-        Ending::Cut => line.push_str("cut"),
-        Ending::Malformed { place } => write!(line, "bad@{place}"),
+        Ending::End { next, .. } => {
+            tail.put_number(u64::from(next));
+            tail.put(b'=');
+        }
+        Ending::Cut => tail.put_all(b"cut"),
+        Ending::Malformed { place } => {
+            tail.put_number(place as u64);
+            tail.put_all(b"bad@");
+        }
     }
 }
 
-// Adds what is found of a mark.
-fn push_found(line: &mut String, found: &Found) -> Result<(), AllocError>
-    ensures { OnOk result
-        (string_bytes line.new ≡ string_bytes line.old ++ seen_text (seen_shown found.now)) }
+// Puts what is found of a mark.
+fn put_found(tail: &mut Tail, found: &Found)
+    requires { length tail.old + 24 ≤ MAX_TAIL }
+    ensures text { tail.new ≡ seen_text (seen_shown found.now) ++ tail.old }
+    ensures room { length tail.new ≤ length tail.old + 24 }
 {
     match found {
-        Found::Marked { mark, .. } => push_mark(line, mark.flow(), mark.loss(), mark.delay()),
-        Found::Unmarked => line.push_str("-"),
-        Found::Cut => line.push_str("cut"),
+        Found::Marked { mark, .. } => put_mark(tail, mark),
+        Found::Unmarked => tail.put(b'-'),
+        Found::Cut => tail.put_all(b"cut"),
     }
 }
 
-// Adds a mark: the flow, the loss bit and the delay bit.
-fn push_mark(line: &mut String, flow: u32, loss: bool, delay: bool) -> Result<(), AllocError>
-    ensures { OnOk result (string_bytes line.new
-        ≡ string_bytes line.old ++ (decimal flow ++ codes "/" ++ decimal (bit loss)
-        ++ codes "/" ++ decimal (bit delay))) }
+// Puts a mark: the flow, the loss bit and the delay bit.
+fn put_mark(tail: &mut Tail, mark: &Mark)
+    requires { length tail.old + 24 ≤ MAX_TAIL }
+    ensures text { tail.new ≡ mark_text mark.now ++ tail.old }
+    ensures room { length tail.new ≤ length tail.old + 24 }
 {
-    let loss = bit_of(loss);
-    let delay = bit_of(delay);
-    write!(line, "{flow}/{loss}/{delay}")
+    tail.put(digit_of(mark.delay()));
+    tail.put(b'/');
+    tail.put(digit_of(mark.loss()));
+    tail.put(b'/');
+    tail.put_number(u64::from(mark.flow()));
 }
 
-// A bit as a number.
-fn bit_of(set: bool) -> u8
-    ensures { result ≡ bit set }
+// The digit of a bit.
+fn digit_of(set: bool) -> u8
+    ensures { decimal (bit set) ≡ result ∷ [] }
 {
-    if set { 1 } else { 0 }
+    if set { b'1' } else { b'0' }
 }

@@ -10,4 +10,4 @@ returns-then-bytes-ne-HOP_BY_HOP c = λ hs ended has so.
 
 pub returns-in-Some : goal.returns-in-Some
 returns-in-Some c = λ hs ended has so.
-    lone-marked c.args.bytes.now hs c.in-Some.mark (search rules) c.if-bytes-ne-HOP_BY_HOP.false c.in-Some.ensures has
+    lone-marked c.args.bytes.now hs c.in-Some.mark (search rules) c.if-bytes-ne-HOP_BY_HOP.false c.in-Some.ensures.has has

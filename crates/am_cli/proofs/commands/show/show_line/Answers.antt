@@ -1,20 +1,29 @@
-use Rattle.std.proofs.Common.{◌≡◌, ℕ, List, ◌++◌, string_bytes, length, decimal, codes, subst}
+-- The line is of what the record holds.
+use Rattle.std.proofs.Common.{refl}
+use Rattle.std.proofs.lemmas.List.{take_rest}
 use Rattle.am_pcap.specs.Shown.{packet_shown}
-use Rattle.am_cli.specs.Lines.{record_text}
-use Rattle.am_cli.proofs.ShowSteps.{line_of_pieces}
+use Rattle.am_pcap.specs.declared.frame.Frame.TheVariants.{Other, Cut}
+use Rattle.am_cli.proofs.TableLemmas.{on_ok}
+use Rattle.am_cli.proofs.ShowSteps.{line_of_packet, line_of_word}
 use Rattle.am_cli.proofs.commands.show.show_line.Goals as goal
 
-pub returns : goal.returns
-returns c =
-    let start : ℕ → List ℕ = λ reading.
-    decimal c.args.packet.now.number ++ codes " " ++ decimal reading ++ codes " " ++ decimal (length c.args.packet.now.bytes.now) ++ codes " "
-    ++ decimal c.args.packet.now.original ++ codes " " in
-    let begun : string_bytes c.push_record.new.line ≡ string_bytes c.clear.new.self ++ record_text c.args.head.now.form.nano c.args.packet.now.number (packet_shown c.args.packet.now) =
-    subst (λ r. string_bytes c.push_record.new.line ≡ string_bytes c.clear.new.self ++ start r) c.reading.ensures c.in_ok-push_record.ensures in
-    record {
-      frame = c.in_ok-push_frame.ensures.frame;
-      held = c.in_ok-push_frame.ensures.held;
-      framed = c.in_ok-push_frame.ensures.framed;
-      text = c.in_ok-push_frame.ensures.text;
-      shown = line_of_pieces _ _ _ _ _ _ c.clear.ensures.bytes begun c.in_ok-push_frame.ensures.added c.in_ok-push_str.ensures.bytes;
-    }
+pub returns-in-Ip6 : goal.returns-in-Ip6
+returns-in-Ip6 c =
+    on_ok c.push_packet.result
+    (λ e. line_of_packet c.args.head.now c.args.packet.now.number (packet_shown c.args.packet.now) c.in-Ip6.at c.whole-whole.result _ _ _
+    c.whole-whole.ensures (take_rest c.args.packet.now.bytes.now c.in-Ip6.at) c.in-Ip6.ensures.framed c.clear.ensures.items e)
+    c.push_packet.ensures
+
+pub returns-in-Other : goal.returns-in-Other
+returns-in-Other c =
+    on_ok c.push_word.result
+    (λ e. line_of_word c.args.head.now c.args.packet.now.number (packet_shown c.args.packet.now) Other c.whole-whole.result _ _ _
+    c.whole-whole.ensures c.in-Other.ensures.framed refl c.clear.ensures.items e)
+    c.push_word.ensures
+
+pub returns-in-Cut : goal.returns-in-Cut
+returns-in-Cut c =
+    on_ok c.push_word-in-Cut.result
+    (λ e. line_of_word c.args.head.now c.args.packet.now.number (packet_shown c.args.packet.now) Cut c.whole-whole.result _ _ _
+    c.whole-whole.ensures c.in-Cut.ensures.framed refl c.clear.ensures.items e)
+    c.push_word-in-Cut.ensures

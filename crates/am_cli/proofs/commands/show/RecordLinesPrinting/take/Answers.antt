@@ -1,4 +1,4 @@
-use Rattle.std.proofs.Common.{refl, string_bytes}
+use Rattle.std.proofs.Common.{refl}
 use Rattle.am_pcap.specs.Shown.{packet_shown}
 use Rattle.am_cli.proofs.ShowSteps.{lines_more}
 use Rattle.am_cli.proofs.commands.show.RecordLinesPrinting.take.Goals as goal
@@ -7,6 +7,6 @@ use Rattle.am_cli.proofs.commands.show.RecordLinesPrinting.take.Goals as goal
 pub returns-in-Ok-clause-more : goal.returns-in-Ok-clause-more
 returns-in-Ok-clause-more c = λ ps text known counted lines. (
   tt,
-  lines_more c.args.head.now ps text c.args.packet.now.number (packet_shown c.args.packet.now) (string_bytes c.show_line.new.line)
-      (string_bytes c.show_line.new.line) lines counted refl c.in-Ok.ensures,
+  lines_more c.args.head.now ps text c.args.packet.now.number (packet_shown c.args.packet.now) c.show_line.new.line.items c.show_line.new.line.items
+      lines counted refl c.in-Ok.ensures,
 )
