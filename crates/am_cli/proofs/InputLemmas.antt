@@ -21,7 +21,7 @@ use Rattle.am_domain.specs.Domains.{DomainValue, IsDomainOf, IsDomainRefusal, Te
 use Rattle.am_domain.specs.declared.error.DomainError.{DomainError}
 use Rattle.am_domain.specs.declared.error.DomainError.TheVariants as domain
 use Rattle.am_cli.specs.Answers.{Reason, Answer}
-use Rattle.am_cli.specs.Answers.Reason.{TooLong, BadCapture, HeadersCut, BadDomain}
+use Rattle.am_cli.specs.Answers.Reason.{BadDomain}
 use Rattle.am_cli.specs.Chains.{Inputs, Judged, Follows, StopsHere}
 use Rattle.am_cli.specs.Inputs.{JudgesCapture, JudgesDomain, marks_reason, most_domain}
 use Rattle.am_cli.specs.Shown.{IsAnswered, stream_answer, domain_answer}

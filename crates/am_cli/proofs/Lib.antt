@@ -12,3 +12,4 @@ pub mod WordLemmas
 pub mod RewriteLemmas
 pub mod MarkLemmas
 pub mod StripLemmas
+pub mod UndoLemmas

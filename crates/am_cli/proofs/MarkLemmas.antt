@@ -1,5 +1,5 @@
 -- The newest block of each flow, as records come; and what a record with its mark is.
-use Rattle.std.proofs.Common.{◌≡◌, ◌≢◌, ℕ, ◌+◌, ◌-◌, ◌*◌, ◌/◌, ◌%◌, ◌^◌, ◌<◌, ◌≤◌, Bool, true, zero, suc, List, [], ◌∷◌, ◌++◌, length, take, drop, get_or, refl, ap, sym, ◌∙◌, subst, arith, inl, inr}
+use Rattle.std.proofs.Common.{◌≡◌, ℕ, ◌+◌, ◌-◌, ◌*◌, ◌/◌, ◌%◌, ◌^◌, ◌<◌, ◌≤◌, Bool, List, [], ◌∷◌, ◌++◌, length, take, drop, refl, ap, sym, ◌∙◌, subst, arith, inl, inr}
 use Rattle.std.specs.Prelude.{IsTrue, nat_le, ◌↔◌, ◌⊎◌, Contains, replicate, slice_index, slice_index_or, slice_set, max}
 use Rattle.std.proofs.lemmas.List.{length-append, length-take, length-drop, take-append-drop, set-get_or, length-set, length-replicate, get_or-replicate, get_or-set_same, get_or-set_other}
 use Rattle.std.proofs.lemmas.List.Elements.{Contains-append_left, Contains-append_right, Contains-append_cases}
@@ -13,7 +13,7 @@ use Rattle.am_pcap.specs.declared.head.Head.{Head}
 use Rattle.am_domain.specs.Domains.{DomainValue}
 use Rattle.am_cli.specs.Rewriting.{IsOfFlow, IsOfNoFlow, with_packet}
 use Rattle.am_cli.specs.Marking.{IsNewest, AreNewest, PlansMark, MarksRecord}
-use Rattle.am_cli.specs.commands.Mark.{IsInBlock, IsAhead, IsMarkOf, GetsMark, RefusesMark, marks, marked_records}
+use Rattle.am_cli.specs.commands.Mark.{IsInBlock, IsAhead, RefusesMark, marks, marked_records}
 use Rattle.am_cli.specs.Answers.{Reason}
 use Rattle.am_cli.specs.Laws.{Laws, AreOneFrame}
 use Rattle.am_cli.proofs.EndingLemmas.{StreamExcludes}

@@ -1,5 +1,5 @@
 -- One more record of a capture whose packets are changed.
-use Rattle.std.proofs.Common.{◌≡◌, ℕ, ◌+◌, ◌-◌, ◌<◌, ◌≤◌, ◌≢◌, zero, suc, Bool, List, [], ◌∷◌, ◌++◌, length, take, drop, refl, ap, sym, ◌∙◌, subst, append_assoc, arith, inl, inr}
+use Rattle.std.proofs.Common.{◌≡◌, ℕ, ◌-◌, ◌<◌, ◌≤◌, ◌≢◌, zero, suc, Bool, List, [], ◌∷◌, ◌++◌, length, take, drop, refl, ap, sym, ◌∙◌, subst, append_assoc, arith, inl, inr}
 use Rattle.std.specs.Prelude.{◌⊎◌, flat_map}
 use Rattle.std.proofs.Math.Seq.{take-length}
 use Rattle.std.proofs.lemmas.List.{append-nil, length-drop}
@@ -17,7 +17,7 @@ use Rattle.am_pcap.specs.declared.frame.LinkKind.{LinkKind}
 use Rattle.am_domain.specs.Domains.{DomainValue}
 use Rattle.am_domain.specs.Values.{FlowValue}
 use Rattle.am_domain.specs.Lookups.{IsFirstWith, NoneHas, Holds}
-use Rattle.am_cli.specs.Rewriting.{Rewrite, AreRewritten, IsRewritten, IsOfFlow, capture_bytes}
+use Rattle.am_cli.specs.Rewriting.{Rewrite, AreRewritten, IsRewritten, IsOfFlow}
 
 -- the records that became of others, and one more behind them
 rewritten-more :

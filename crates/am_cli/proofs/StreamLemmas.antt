@@ -1,7 +1,7 @@
 -- A capture that is printed record by record: what was printed so far, and what each exit of the loop leaves.
-use Rattle.std.proofs.Common.{arith, refl, sym, ap, subst, ◌∙◌, ◌≡◌, ℕ, ◌+◌, ◌≤◌, Bool, min, List, [], ◌∷◌, ◌++◌, length, drop, Option, Some, Ok, inl, inr}
+use Rattle.std.proofs.Common.{arith, refl, sym, ap, subst, ◌∙◌, ◌≡◌, ℕ, ◌≤◌, Bool, min, List, [], ◌∷◌, ◌++◌, length, drop, Option, Some, Ok, inl, inr}
 use Rattle.std.specs.Prelude.{Result, IfOk, IfSome}
-use Rattle.std.proofs.lemmas.List.{length-append, length-take}
+use Rattle.std.proofs.lemmas.List.{length-take}
 use Rattle.std.specs.Io.KnownBytes.{append_known}
 use Rattle.am_base.specs.Counts.{Rose}
 use Rattle.am_base.specs.Shelves.{Told}

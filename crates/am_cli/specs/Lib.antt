@@ -16,3 +16,4 @@ pub mod Marking
 pub mod Forms
 pub mod Runs
 pub mod Shown
+pub mod Undoing

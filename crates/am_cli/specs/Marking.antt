@@ -1,5 +1,5 @@
 -- What `mark` keeps from record to record, and how it plans a record's mark.
-use Rattle.std.specs.Prelude.{◌≡◌, ◌+◌, ◌-◌, ◌%◌, ◌<◌, ◌≤◌, ℕ, List, nat_le, max, length, drop, Contains, slice_index, slice_index_or, slice_set}
+use Rattle.std.specs.Prelude.{◌≡◌, ◌+◌, ◌-◌, ◌%◌, ◌<◌, ℕ, List, nat_le, max, length, drop, Contains, slice_index, slice_index_or, slice_set}
 use Rattle.am_opts.specs.Marking.{Marking}
 use Rattle.am_clock.specs.Times.{IsMarkedIn, parity}
 use Rattle.am_pcap.specs.Packets.{Packet, reading_of}

@@ -1,5 +1,5 @@
 -- What the parts of a command add that prints a capture record by record.
-use Rattle.std.specs.Prelude.{◌≡◌, ◌≤◌, ◌⊎◌, ◌+◌, ⊤, ℕ, List, [], ◌∷◌, ◌++◌, length}
+use Rattle.std.specs.Prelude.{◌≡◌, ◌≤◌, ◌⊎◌, ◌+◌, ℕ, List, [], ◌∷◌, ◌++◌, length}
 use Rattle.am_base.specs.Counts.{Rose}
 use Rattle.am_base.specs.Sinks.{WritesAll, WritesFront}
 use Rattle.am_pcap.specs.Packets.{Packet}

@@ -1,6 +1,6 @@
 -- The command `mark`: the capture with a mark in each packet of the domain's flows (RFC 9343, section 4).
-use Rattle.std.specs.Prelude.{◌≡◌, ◌⊎◌, ◌↔◌, ◌+◌, ◌%◌, ◌<◌, ℕ, ⊤, Bool, IsTrue, List, [], ◌∷◌, ◌++◌, length, drop, Contains, slice_index_or}
-use Rattle.am_opts.specs.Marking.{Marking, mark_of}
+use Rattle.std.specs.Prelude.{◌≡◌, ◌⊎◌, ◌↔◌, ◌+◌, ◌%◌, ◌<◌, ℕ, IsTrue, List, length, drop, Contains, slice_index_or}
+use Rattle.am_opts.specs.Marking.{Marking}
 use Rattle.am_clock.specs.Times.{IsMarkedIn, parity}
 use Rattle.am_pcap.specs.Packets.{Packet, reading_of}
 use Rattle.am_pcap.specs.CaptureFiles.{is_whole}

@@ -1,5 +1,5 @@
 -- The command `strip`: the capture without the marks of the domain's flows (RFC 9343, section 4).
-use Rattle.std.specs.Prelude.{◌≡◌, ◌⊎◌, ◌-◌, ◌≤◌, ℕ, List, [], ◌∷◌, drop, slice_index_or}
+use Rattle.std.specs.Prelude.{◌≡◌, ◌⊎◌, ◌-◌, ◌≤◌, ℕ, List, drop, slice_index_or}
 use Rattle.am_opts.specs.Marking.{Marking}
 use Rattle.am_pcap.specs.Packets.{Packet}
 use Rattle.am_pcap.specs.declared.head.Head.{Head}

@@ -1,8 +1,7 @@
 -- What each exit of the loop leaves, and that one more record keeps what is known.
 use Rattle.std.proofs.Common.{◌≡◌, ◌+◌, [], ◌∷◌, ◌++◌, length, arith, sym, ap, subst, Err}
 use Rattle.am_pcap.specs.Shown.{packet_shown}
-use Rattle.am_cli.specs.Answers.Ending.{Done}
-use Rattle.am_cli.specs.Answers.Answer.{Ended, NoMemory}
+use Rattle.am_cli.specs.Answers.Answer.{NoMemory}
 use Rattle.am_cli.specs.Chains.{inputs, output}
 use Rattle.am_cli.specs.Shown.{answer_of, stop_shown}
 use Rattle.am_cli.proofs.StreamLemmas.{gave-record, reads-of, read-short, on-refused, stream-not-opened, stream-unbegun, stream-begun, stream-unbegun-written, stream-stopped, stream-memory, stream-flushed, stream-more, stream-unwritten, stream-unprinted-flushed, stream-ended, stream-unended}

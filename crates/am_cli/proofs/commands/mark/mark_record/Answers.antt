@@ -1,6 +1,6 @@
 -- The piece is the record with its mark.
 use Rattle.std.proofs.lemmas.List.{get_or_default}
-use Rattle.std.proofs.Common.{arith, subst, ◌∙◌, ◌≡◌, ◌+◌, ◌<◌, ◌≤◌, ℕ, List, length, drop}
+use Rattle.std.proofs.Common.{arith, subst, ◌∙◌, ◌≡◌, ◌+◌, ℕ, length, drop}
 use Rattle.std.specs.Prelude.{slice_index}
 use Rattle.am_pcap.specs.Shown.{packet_shown}
 use Rattle.am_insert.specs.Edits.{edited}

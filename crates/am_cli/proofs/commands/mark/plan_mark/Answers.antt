@@ -1,8 +1,8 @@
 -- The mark of a record, and why it has none.
-use Rattle.std.proofs.Common.{ap, sym, subst, refl, ◌∙◌, ◌≡◌, ℕ, ◌%◌, List, get_or, drop, inl, inr}
+use Rattle.std.proofs.Common.{ap, sym, subst, refl, ◌∙◌, ℕ, List, get_or, drop, inr}
 use Rattle.std.proofs.lemmas.List.{get_or_default}
 use Rattle.am_clock.specs.Times.{Times, IsMarkedIn, parity}
-use Rattle.am_insert.specs.Inserting.{Inserted, IsOpen, HindersFirst}
+use Rattle.am_insert.specs.Inserting.{Inserted, IsOpen}
 use Rattle.am_insert.specs.Edits.{edited}
 use Rattle.am_domain.specs.Values.{FlowValue}
 use Rattle.am_cli.proofs.RewriteLemmas.{slice-rest}
