@@ -78,7 +78,7 @@ refuses-kept before after name stream reason text kept h =
       ]
     ]
 
-stream-ends-kept :
+pub stream-ends-kept :
     (before after : Option Told) (name : List ℕ) (stream : Stream) (e : Ending) (text : List ℕ)
     → KeepsFiles before after → StreamEnds after name stream e text → StreamEnds before name stream e text
 stream-ends-kept before after name stream Done text kept h =

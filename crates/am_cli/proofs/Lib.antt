@@ -14,3 +14,4 @@ pub mod MarkLemmas
 pub mod StripLemmas
 pub mod NodeLemmas
 pub mod AuditLemmas
+pub mod UndoLemmas

@@ -18,3 +18,4 @@ pub mod Marking
 pub mod Forms
 pub mod Runs
 pub mod Shown
+pub mod Undoing

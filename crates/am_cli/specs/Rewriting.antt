@@ -1,8 +1,8 @@
 -- What `mark` and `strip` write of a capture: its file header as it is, then each record, changed or as it is.
-use Rattle.std.specs.Prelude.{◌≡◌, ℕ, List, [], ◌∷◌, ◌++◌, take, drop, flat_map}
+use Rattle.std.specs.Prelude.{◌≡◌, ℕ, List, [], ◌∷◌, ◌++◌, take, drop}
 use Rattle.am_ip6.specs.Fixed.{IsFixed, parts_of}
 use Rattle.am_pcap.specs.Packets.{Packet}
-use Rattle.am_pcap.specs.Spelling.{record_bytes}
+use Rattle.am_pcap.specs.Spelling.{capture_bytes}
 use Rattle.am_pcap.specs.Frames.{IsFramed}
 use Rattle.am_pcap.specs.CaptureFiles.{is_whole}
 use Rattle.am_pcap.specs.declared.frame.Frame.TheVariants.{Ip6}
@@ -43,10 +43,6 @@ abbrev pub AreRewritten : Rewrite → Head → List Packet → List Packet → L
 AreRewritten rewrite h before [] qs = qs ≡ []
 AreRewritten rewrite h before (p ∷ ps) qs =
     (q : Packet) × (rest : List Packet) × rewrite h before p q × AreRewritten rewrite h (before ++ p ∷ []) ps rest × (qs ≡ q ∷ rest)
-
--- the bytes of a capture with this file header, as it was read, and these records
-abbrev pub capture_bytes : Head → List Packet → List ℕ
-capture_bytes h ps = h.raw ++ flat_map (λ p. record_bytes h.form.big p) ps
 
 -- the text is the capture with the records that become of these
 pub record IsRewritten (rewrite : Rewrite) (h : Head) (ps : List Packet) (text : List ℕ) : Type 0 where

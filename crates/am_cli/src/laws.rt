@@ -1,9 +1,11 @@
-//! What is known of the inputs of commands, whatever they are: bytes that are taken aren't refused.
+//! What is known of commands, whatever their inputs are: laws, each the contract of a function that does nothing.
 ghost use Rattle.am_cli.specs.Laws.{Laws};
+ghost use Rattle.am_cli.specs.Undoing.{StripUndoesMark, RunsUndo};
 
 use am_domain::domain_law;
+use am_insert::{address_law, insert_law, open_law, strip_law};
 use am_meter::marks_are_one;
-use am_pcap::{beginnings_agree, captures_are_one, frames_are_one};
+use am_pcap::{beginnings_agree, captures_are_one, captures_are_spelled, frames_are_one};
 
 /// What is taken of a capture or a domain file excludes a refusal of the same bytes.
 pub fn laws()
@@ -14,4 +16,20 @@ pub fn laws()
     marks_are_one();
     domain_law();
     frames_are_one();
+}
+
+/// What `mark` printed of a capture, and has at most 2^40 bytes, `strip` turns back into that capture, under the same
+/// domain.
+pub fn strip_undoes_mark()
+    ensures captures { StripUndoesMark }
+    // The same of two runs, each with its domain file.
+    ensures runs { RunsUndo }
+{
+    laws();
+    captures_are_one();
+    captures_are_spelled();
+    insert_law();
+    open_law();
+    address_law();
+    strip_law();
 }

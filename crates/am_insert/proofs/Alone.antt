@@ -12,7 +12,7 @@ use Rattle.am_ip6.specs.Chains.{Lent, HasHeaders, first_spot, spot_after}
 use Rattle.am_ip6.specs.Marks.{IsNoMark, HasMark, IsPassed}
 use Rattle.am_ip6.specs.Shown.{lent}
 use Rattle.am_ip6.specs.Laws.{HasOneWalk}
-use Rattle.am_insert.specs.Changes.{kind_of}
+use Rattle.am_insert.specs.Changes.{kind_of, size_place}
 use Rattle.am_insert.specs.Stripping.{EndsInPad, Stripped, without_header, with_shorter_header}
 use Rattle.am_insert.specs.Parts.{Bounds, IsFirstMarked, IsLone, IsPadded, CutsOut, IsInNoShape}
 use Rattle.am_insert.specs.declared.strip.MarkedHeader.{MarkedHeader}
@@ -82,6 +82,15 @@ module _ (area : List ℕ) (m : Marking) (place : ℕ) (has : HasMark area m pla
 among_none : (before : List Placed) (o : Placed) (behind : List Placed) → All IsNoMark (before ++ o ∷ behind) → IsNoMark o
 among_none [] o behind all = All-head IsNoMark o behind all
 among_none (x ∷ xs) o behind all = among_none xs o behind (All-tail IsNoMark x (xs ++ o ∷ behind) all)
+
+-- a header of eight bytes has no room for a PadN before its mark
+lone-unpadded :
+    (p : List ℕ) (h : Lent) (m : Marking) (place : ℕ) (has : HasMark (drop 2 h.bytes) m place) → Bounds p h
+    → slice_index p (size_place h) ≡ 0 → has.behind ≡ [] → EndsInPad has.before → ⊥
+lone-unpadded p h m place has b lone last pad =
+    let two = mark-padded (drop 2 h.bytes) m place has pad in
+    let end = last-mark (drop 2 h.bytes) m place has last in
+    omega (arith, b.size, lone, two, end, length-drop 2 h.bytes)
 
 -- what is known of walks, of options and of spellings
 module _ (walks : (packet : List ℕ) (whole : Bool) → HasOneWalk packet whole) (lists : (area : List ℕ) → HasOneLongest area)
@@ -227,3 +236,34 @@ module _ (walks : (packet : List ℕ) (whole : Bool) → HasOneWalk packet whole
       not_passed (kind_of place) s.found.header n s.found.marked.place s.found.of_kind s.found.marked.has
       (one_of (IsPassed (kind_of place)) s.found.before s.found.header s.found.behind
       (subst (λ x. All (IsPassed (kind_of place)) x) (chain ∙ s.found.chain) passed))
+
+  -- two ways in which a packet is stripped are one
+  pub stripped-one :
+      (p : List ℕ) (place : Place) (m n : Marking) (a b : List ℕ) → Stripped p m place a → Stripped p n place b → (m ≡ n) × (a ≡ b)
+  stripped-one p place m n a b s t =
+      let walk = walks p true in
+      let chain : s.headers ≡ t.headers = walk.one_chain s.headers s.chain ∙ sym (walk.one_chain t.headers t.chain) in
+      let one = first-one (IsPassed (kind_of place)) s.found.before t.found.before s.found.header t.found.header s.found.behind t.found.behind
+      s.found.passed t.found.passed
+      (not_passed (kind_of place) s.found.header m s.found.marked.place s.found.of_kind s.found.marked.has)
+      (not_passed (kind_of place) t.found.header n t.found.marked.place t.found.of_kind t.found.marked.has)
+      (sym s.found.chain ∙ chain ∙ t.found.chain) in
+      let area = ap (λ (x : Lent). drop 2 x.bytes) one.same in
+      let marks = mark-one (drop 2 s.found.header.bytes) (drop 2 t.found.header.bytes) m n s.found.marked.place t.found.marked.place
+      s.found.marked.has t.found.marked.has area in
+      let x = bounds p s.found.header (member-in p s.headers s.found.before s.found.behind s.found.header s.chain s.found.chain) in
+      let y = bounds p t.found.header (member-in p t.headers t.found.before t.found.behind t.found.header t.chain t.found.chain) in
+      let same : a ≡ b =
+      ⊎_elim
+      (λ l. ⊎_elim
+      (λ k. l.stripped_is
+      ∙ ap (λ (hs : List Lent). without_header p (spot_after p (first_spot p) hs).told_at s.found.header) one.before
+      ∙ ap (λ (h : Lent). without_header p (spot_after p (first_spot p) t.found.before).told_at h) one.same
+      ∙ sym k.stripped_is)
+      (λ g. absurd (lone-unpadded p t.found.header n t.found.marked.place t.found.marked.has y
+      (ap (λ (h : Lent). slice_index p (size_place h)) (sym one.same) ∙ l.lone) g.last g.padded)) t.taken)
+      (λ g. ⊎_elim
+      (λ l. absurd (lone-unpadded p s.found.header m s.found.marked.place s.found.marked.has x
+      (ap (λ (h : Lent). slice_index p (size_place h)) one.same ∙ l.lone) g.last g.padded))
+      (λ k. g.stripped_is ∙ ap (λ (h : Lent). with_shorter_header p h) one.same ∙ sym k.stripped_is) t.taken) s.taken in
+      (marks.mark, same)

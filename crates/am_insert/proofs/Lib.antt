@@ -7,3 +7,4 @@ pub mod FirstMark
 pub mod Refused
 pub mod Planned
 pub mod Alone
+pub mod Opened

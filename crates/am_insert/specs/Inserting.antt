@@ -2,7 +2,7 @@
 use Rattle.std.specs.Prelude.{◌≡◌, ◌≢◌, ◌⊎◌, ℕ, ◌+◌, ◌<◌, Bool, true, List, ◌∷◌, ◌++◌, length, All, slice_index}
 use Rattle.am_opts.specs.Marking.{Marking, IsCanonical}
 use Rattle.am_ip6.specs.declared.marks.Place.{Place}
-use Rattle.am_ip6.specs.Fixed.{payload_of}
+use Rattle.am_ip6.specs.Fixed.{IsFixed, payload_of, parts_of}
 use Rattle.am_ip6.specs.Chains.{Lent, Spot, HasHeaders}
 use Rattle.am_ip6.specs.Endings.{Ended, EndsSo, IsOtherVersion}
 use Rattle.am_ip6.specs.Endings.Ended.{AtNumber, WasCut, IsMalformed}
@@ -61,6 +61,12 @@ pub record Inserted (packet : List ℕ) (mark : Marking) (place : Place) (marked
   pub headers : List Lent
   pub chain : HasHeaders packet headers
   pub put : GetsHeader packet headers mark place marked ⊎ GetsLonger packet headers mark place marked
+
+-- the packet with the mark begins with a fixed header too, and has the addresses that it had (RFC 8200, section 3)
+pub record KeepsAddresses (packet marked : List ℕ) : Type 0 where
+  pub fixed : IsFixed marked
+  pub source : (parts_of marked).source ≡ (parts_of packet).source
+  pub destination : (parts_of marked).destination ≡ (parts_of packet).destination
 
 -- the walk of the packet ends so
 pub record WalkEnds (packet : List ℕ) (whole : Bool) (ended : Ended) : Type 0 where

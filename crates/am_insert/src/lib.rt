@@ -21,5 +21,5 @@ mod tests;
 
 pub use edit::Edit;
 pub use insert::{InsertError, plan_insert};
-pub use laws::insert_law;
+pub use laws::{address_law, insert_law, open_law, strip_law};
 pub use strip::plan_strip;

@@ -17,3 +17,4 @@ pub mod Passing
 pub mod HeadReading
 pub mod Framed
 pub mod OneFile
+pub mod Written

@@ -1,7 +1,8 @@
 -- The bytes of a record, in the file's byte order (the pcap savefile format).
-use Rattle.std.specs.Prelude.{ℕ, Bool, List, ◌++◌, length, cond}
+use Rattle.std.specs.Prelude.{◌≡◌, ℕ, ◌^◌, ◌<◌, ◌≤◌, Bool, List, ◌++◌, length, cond, flat_map, All, slice_index}
 use Rattle.std.specs.Int.{w32, to_be_bytes, to_le_bytes}
-use Rattle.am_pcap.specs.Packets.{Packet}
+use Rattle.am_pcap.specs.Packets.{Packet, most_captured}
+use Rattle.am_pcap.specs.declared.head.Head.{Head}
 
 -- the four bytes of a number
 abbrev pub word_spelled : Bool → ℕ → List ℕ
@@ -15,3 +16,24 @@ head_spelled big seconds fraction captured original =
 -- the bytes of the record of a packet
 abbrev pub record_bytes : Bool → Packet → List ℕ
 record_bytes big p = head_spelled big p.seconds p.fraction (length p.bytes) p.original ++ p.bytes
+
+-- the bytes of a capture with this file header, as it was read, and these records
+abbrev pub capture_bytes : Head → List Packet → List ℕ
+capture_bytes h ps = h.raw ++ flat_map (λ p. record_bytes h.form.big p) ps
+
+-- a record can be of the packet: its numbers have 32 bits, and it has no more bytes than a record may have
+pub record FitsRecord (p : Packet) : Type 0 where
+  pub seconds : p.seconds < 2 ^ 32
+  pub fraction : p.fraction < 2 ^ 32
+  pub original : p.original < 2 ^ 32
+  pub captured : length p.bytes ≤ most_captured
+
+-- each number of the packet's bytes is a byte
+abbrev pub HasBytes : Packet → Type 0
+HasBytes p = (k : ℕ) → slice_index p.bytes k < 2 ^ 8
+
+-- the bytes are those of a capture with this file header and these records, and records can be of the packets
+pub record IsSpelled (bytes : List ℕ) (h : Head) (ps : List Packet) : Type 0 where
+  pub spelled : bytes ≡ capture_bytes h ps
+  pub fit : All FitsRecord ps
+  pub are_bytes : All HasBytes ps

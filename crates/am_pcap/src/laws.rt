@@ -1,6 +1,8 @@
 //! What holds of captures and of what their bytes begin with: laws, each the contract of a function that does nothing.
-ghost use Rattle.std.specs.Prelude.{◌≡◌, ◌++◌, ◌⊎◌, ℕ, List, [], Bool};
+ghost use Rattle.std.specs.Prelude.{◌≡◌, ◌++◌, ◌⊎◌, ◌<◌, ◌^◌, ℕ, List, [], Bool, length, All, slice_index};
 ghost use Rattle.am_pcap.specs.Packets.{Packet};
+ghost use Rattle.am_pcap.specs.Spelling.{capture_bytes, FitsRecord, IsSpelled};
+ghost use Rattle.am_pcap.specs.Heads.{IsHead};
 ghost use Rattle.am_pcap.specs.Captures.{IsCapture};
 ghost use Rattle.am_pcap.specs.CaptureFiles.{BeginsWith, HasHead, IsFrontOf, IsRefusedHeader, IsRefusedIn};
 ghost use Rattle.am_pcap.specs.Frames.{IsFramed};
@@ -43,4 +45,13 @@ pub fn beginnings_agree()
 pub fn frames_are_one()
     ensures { (link : LinkKind) (bytes : List ℕ) (whole : Bool) (f g : Frame)
         → IsFramed link bytes whole f → IsFramed link bytes whole g → f ≡ g }
+{}
+
+/// A capture is its file header and then its records, each in the one way in which it is spelled; and bytes that are so
+/// spelled are read back.
+pub fn captures_are_spelled()
+    ensures spelled { (bytes : List ℕ) (h : Head) (ps : List Packet)
+        → ((k : ℕ) → slice_index bytes k < 2 ^ 8) → IsCapture bytes h ps → IsSpelled bytes h ps }
+    ensures read_back { (h : Head) (ps : List Packet)
+        → length h.raw ≡ 24 → IsHead h h.raw → All FitsRecord ps → IsCapture (capture_bytes h ps) h ps }
 {}

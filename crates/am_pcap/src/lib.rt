@@ -24,6 +24,6 @@ pub use capture::{Capture, FileError};
 pub use decoder::Decoder;
 pub use frame::{Frame, LinkKind, packet_of};
 pub use head::{Head, file_head, record_head};
-pub use laws::{beginnings_agree, captures_are_one, frames_are_one};
+pub use laws::{beginnings_agree, captures_are_one, captures_are_spelled, frames_are_one};
 pub use record::{Form, Record};
 pub use refusal::CapError;
