@@ -26,10 +26,7 @@ fn run_meter(
     capture: &[u8],
     faults: Faults,
 ) -> Result<Ran, AllocError> {
-    let files = files(
-        alloc,
-        &[("two.toml", TWO.as_bytes()), ("u.pcap", capture)],
-    )?;
+    let files = files(alloc, &[("two.toml", TWO.as_bytes()), ("u.pcap", capture)])?;
     run_over(alloc, words, files, faults)
 }
 
@@ -64,7 +61,12 @@ fn tells_why_a_point_has_no_report(rt: HostRuntime) -> Result<(), Fail> {
     // The node is asked for after the domain, and before any capture.
     let nobody = ["meter", "two.toml", "z"];
     let ran = run_meter(alloc, &nobody, &up, open(2))?;
-    wants(&rt, &ran, (3, "", "altmark: unknown node\n"), "unknown node");
+    wants(
+        &rt,
+        &ran,
+        (3, "", "altmark: unknown node\n"),
+        "unknown node",
+    );
     let ran = run_meter(alloc, &["meter", "two.toml", "b"], &up, NONE)?;
     let line = "altmark: v.pcap: missing\n";
     wants(&rt, &ran, (4, "", line), line);
