@@ -21,7 +21,7 @@ use Rattle.am_cli.specs.Answers.Ending.{Done}
 use Rattle.am_cli.specs.Chains.Chain.{Writes}
 use Rattle.am_cli.specs.Chains.{Inputs, Output, Judged, Follows, StopsHere, Performs}
 use Rattle.am_cli.specs.Inputs.{JudgesCapture}
-use Rattle.am_cli.specs.Auditing.{TakesFirst, StopsAmong}
+use Rattle.am_cli.specs.Auditing.{TakesFirst, StopsAmong, ReportsIgnoreWorkers, TablesIgnoreWorkers, with_workers}
 use Rattle.am_cli.specs.commands.Audit.{HaveCells, IsLossTable, audit_from}
 
 -- the nodes from this one on are it and those after it
@@ -168,3 +168,31 @@ table-of-all d plan before now control m so planned measured =
       have = subst (λ cs. HaveCells d (length d.nodes) so.taken cs) same so.have;
       printed = refl;
     }
+
+metered-alike :
+    (d : DomainValue) (workers node : ℕ) (ms : List Marked) (t : CellTable) → AreMetered d node ms t → AreMetered (with_workers d workers) node ms t
+metered-alike d workers node ms t h = record { table = h.table; cells = h.cells }
+
+pub reports-alike : ReportsIgnoreWorkers
+reports-alike d workers node ms text h =
+    record { cells = h.cells; metered = metered-alike d workers node ms h.cells h.metered; printed = h.printed }
+
+pub tables-alike : TablesIgnoreWorkers
+tables-alike d workers taken text h = record {
+  plan = h.plan;
+  planned = record {
+    clusters = h.planned.clusters;
+    parted = h.planned.parted;
+    entries = h.planned.entries;
+    exits = h.planned.exits;
+    flows = h.planned.flows;
+    first = h.planned.first;
+    end = h.planned.end;
+  };
+  cells = h.cells;
+  have = record {
+    each = h.have.each;
+    metered = λ node within. metered-alike d workers node (get_or taken node []) (get_or h.cells node no_table) (h.have.metered node within);
+  };
+  printed = h.printed;
+}

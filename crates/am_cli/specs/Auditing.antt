@@ -1,4 +1,4 @@
--- The captures of a domain's nodes, taken one after another.
+-- The captures of a domain's nodes, taken one after another; and that the number of workers changes nothing.
 use Rattle.std.specs.Prelude.{◌≡◌, ℕ, ◌-◌, ◌≤◌, List, [], ◌++◌, length, drop, map, replicate, Some, None}
 use Rattle.am_cells.specs.CellTables.{CellTable}
 use Rattle.am_control.specs.Controls.{ControlValue}
@@ -7,7 +7,8 @@ use Rattle.am_domain.specs.Domains.{DomainValue}
 use Rattle.am_meter.specs.declared.stream.Marked.{Marked}
 use Rattle.am_cli.specs.Answers.{Answer}
 use Rattle.am_cli.specs.Chains.{Inputs, Output, Performs}
-use Rattle.am_cli.specs.commands.Audit.{HaveCells, audit_from}
+use Rattle.am_cli.specs.commands.Audit.{HaveCells, IsLossTable, audit_from}
+use Rattle.am_cli.specs.commands.Meter.{IsNodeReport}
 
 -- the captures of all nodes come to this stop, and nothing is printed, however the output stands
 abbrev pub StopsAmong : DomainValue → Inputs → Inputs → Answer → Type 0
@@ -25,3 +26,19 @@ pub record TakesFirst (d : DomainValue) (count : ℕ) (plan : LossPlan) (before 
   pub goes_on : (after : Inputs) (old new : Output) (answer : Answer)
       → Performs now after old new (audit_from d (drop count d.nodes) taken) answer
       → Performs before after old new (audit_from d d.nodes []) answer
+
+-- a domain with another number of workers
+abbrev pub with_workers : DomainValue → ℕ → DomainValue
+with_workers d workers = record d { workers = workers }
+
+-- a node's report is the same for every number of workers
+abbrev pub ReportsIgnoreWorkers : Type 0
+ReportsIgnoreWorkers =
+    (d : DomainValue) (workers node : ℕ) (ms : List Marked) (text : List ℕ)
+    → IsNodeReport d node ms text → IsNodeReport (with_workers d workers) node ms text
+
+-- and so is the loss table
+abbrev pub TablesIgnoreWorkers : Type 0
+TablesIgnoreWorkers =
+    (d : DomainValue) (workers : ℕ) (taken : List (List Marked)) (text : List ℕ)
+    → IsLossTable d taken text → IsLossTable (with_workers d workers) taken text

@@ -1,4 +1,5 @@
 //! What is known of commands, whatever their inputs are: laws, each the contract of a function that does nothing.
+ghost use Rattle.am_cli.specs.Auditing.{ReportsIgnoreWorkers, TablesIgnoreWorkers};
 ghost use Rattle.am_cli.specs.Laws.{Laws};
 ghost use Rattle.am_cli.specs.Undoing.{StripUndoesMark, RunsUndo};
 
@@ -32,4 +33,11 @@ pub fn strip_undoes_mark()
     open_law();
     address_law();
     strip_law();
+}
+
+/// The number of workers of a domain changes nothing of what `meter` and `audit` print.
+pub fn workers_change_nothing()
+    ensures reports { ReportsIgnoreWorkers }
+    ensures tables { TablesIgnoreWorkers }
+{
 }
