@@ -5,9 +5,8 @@ use Rattle.am_base.specs.Files.{HasFile}
 use Rattle.am_pcap.specs.Readings.{most_read}
 use Rattle.am_domain.specs.Domains.{DomainValue}
 use Rattle.am_insert.specs.Changes.{IsBytes}
-use Rattle.am_cli.specs.Answers.{Ending}
+use Rattle.am_cli.specs.Answers.{Ending, Answer}
 use Rattle.am_cli.specs.Answers.Ending.{Done}
-use Rattle.am_cli.specs.Answers.{Answer}
 use Rattle.am_cli.specs.Answers.Answer.{Ended}
 use Rattle.am_cli.specs.Chains.{Inputs, Output, inputs, Chain, StreamEnds, Performs}
 use Rattle.am_cli.specs.WordForms.{DomainFile}
@@ -19,8 +18,8 @@ pub record StripsTo (d : DomainValue) (t : Told) (name bytes : List ℕ) : Type 
   pub done : StreamEnds (Some t) name (stripped_records d) Done bytes
   pub only : (ending : Ending) (text : List ℕ) → StreamEnds (Some t) name (stripped_records d) ending text → (ending ≡ Done) × (text ≡ bytes)
 
--- a file that `mark` is done with, and what it printed of it, which has at most 2^40 bytes and is a file of its own then:
--- `strip` turns that file into the first
+-- a file that `mark` is done with, and what it printed of it, which has at most 2^40 bytes and is a file then, too: `strip`
+-- turns that one into the first
 abbrev pub StripUndoesMark : Type 0
 StripUndoesMark =
     (d : DomainValue) (t u : Told) (name other file marked : List ℕ) → IsBytes file
