@@ -11,8 +11,8 @@ use Rattle.am_report.specs.declared.error.ReportError.TheVariants.{BadHeader, Ba
 use Rattle.am_report.specs.declared.filling.Filling.{Filling}
 use Rattle.am_report.specs.declared.read.Report.{Report}
 
--- what is so of every report that is filled: its cells are the domain's, and the next row is one of its rows, or the one after the
--- last
+-- what is so of every report that is filled: its cells are the domain's, and the next row is one of its rows, or the one
+-- after the last
 pub record IsFilling (d : DomainValue) (f : Filling) : Type 0 where
   pub shape : HasShape f.cells (length d.flows) d.first d.end
   pub flow_there : f.flow < length d.flows

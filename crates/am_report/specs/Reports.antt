@@ -75,7 +75,8 @@ RefusesRow d before fields (UnknownNode row) =
 RefusesRow d before fields (OtherNode row) =
     (row ≡ length before + 2) × (r : RowValue) × KnowsNode d before fields r × (IsOfFirstNode before r → ⊥)
 RefusesRow d before fields (UnknownFlow row) =
-    (row ≡ length before + 2) × (r : RowValue) × KnowsNode d before fields r × IsOfFirstNode before r × IsNoFlow d r.flow
+    (row ≡ length before + 2) × (r : RowValue) × KnowsNode d before fields r × IsOfFirstNode before r
+    × IsNoFlow d r.flow
 RefusesRow d before fields (NotInOrder row) =
     (row ≡ length before + 2) × (r : RowValue) × KnowsNode d before fields r × IsOfFirstNode before r
     × (flow : ℕ) × IsFlowNumber d r.flow flow × (IsWanted d (length before) flow r.block → ⊥)
@@ -86,7 +87,8 @@ RefusesRow d before fields Memory = ⊥
 -- after these rows, the fields of more are taken one by one, and these are all rows then
 abbrev pub TakesRows : DomainValue → List RowValue → List (List (List ℕ)) → List RowValue → Type 0
 TakesRows d before [] after = after ≡ before
-TakesRows d before (fields ∷ more) after = (r : RowValue) × IsTaken d before fields r × TakesRows d (before ++ r ∷ []) more after
+TakesRows d before (fields ∷ more) after =
+    (r : RowValue) × IsTaken d before fields r × TakesRows d (before ++ r ∷ []) more after
 
 -- the rows of a text after that of the columns' names are all taken, as these
 pub record AreAllTaken (d : DomainValue) (bytes : List ℕ) (taken : List RowValue) : Type 0 where
@@ -94,7 +96,8 @@ pub record AreAllTaken (d : DomainValue) (bytes : List ℕ) (taken : List RowVal
   pub rows : AreRows bytes (column_names ∷ fields)
   pub takes : TakesRows d [] fields taken
 
--- the text says this report: all of its rows are taken, no further one is wanted, and they are of its node and have its cells
+-- the text says this report: all of its rows are taken, no further one is wanted, and they are of its node and have its
+-- cells
 pub record IsReportOf (d : DomainValue) (bytes : List ℕ) (report : Report) : Type 0 where
   pub taken : List RowValue
   pub all : AreAllTaken d bytes taken

@@ -49,7 +49,12 @@ abbrev pub no_node : NodeValue
 no_node = record { name = []; capture = []; from = 0; until = 0 }
 
 abbrev pub no_flow : FlowValue
-no_flow = record { name = []; id = 0; source = record { bytes = []; length = 0 }; destination = record { bytes = []; length = 0 } }
+no_flow = record {
+  name = [];
+  id = 0;
+  source = record { bytes = []; length = 0 };
+  destination = record { bytes = []; length = 0 };
+}
 
 -- the name of the node of this number, of which the domain has one
 abbrev pub node_name : DomainValue → ℕ → List ℕ

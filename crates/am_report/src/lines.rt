@@ -17,7 +17,8 @@ pub(crate) fn no_lines(alloc: Global) -> Writer<Vec<u8>>
 /// Adds the line of these fields.
 pub(crate) fn add_line(lines: &mut Writer<Vec<u8>>, fields: &[&[u8]]) -> Result<(), AllocError>
     ensures { OnOk result ((text : List ℕ) → HasLines (λ v. Some v.items) lines.old text
-        → HasLines (λ v. Some v.items) lines.new (text ++ fields_line (map (λ f. f.now) fields.now))) }
+        → HasLines (λ v. Some v.items) lines.new
+        (text ++ fields_line (map (λ f. f.now) fields.now))) }
 {
     // a writer over memory fails for want of it alone, and all rows have as many fields
     match lines.write_fields(fields) {

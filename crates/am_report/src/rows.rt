@@ -26,10 +26,12 @@ pub(crate) fn next_row(
     reader: &mut Reader<&[u8]>,
     fields: &mut ByteRecord,
 ) -> Result<bool, ReportError>
-    ensures more { IfOk result (λ found. OnTrue found ((bytes : List ℕ) (rows : List (List (List ℕ)))
+    ensures more { IfOk result (λ found. OnTrue found (
+        (bytes : List ℕ) (rows : List (List (List ℕ)))
         → HaveBeenRead reader.old bytes rows
         → HaveBeenRead reader.new bytes (rows ++ fields_of fields.new ∷ []))) }
-    ensures all { IfOk result (λ found. OnFalse found ((bytes : List ℕ) (rows : List (List (List ℕ)))
+    ensures all { IfOk result (λ found. OnFalse found (
+        (bytes : List ℕ) (rows : List (List (List ℕ)))
         → HaveBeenRead reader.old bytes rows → AreRows bytes rows)) }
     ensures memory { IfErr result (λ e. e ≡ Memory) }
 {

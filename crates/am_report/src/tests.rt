@@ -45,8 +45,8 @@ from = \"a\"
 to = \"b\"
 ";
 
-// What node a counts of six packets of the flow, with the readings 1, 2, 11, 12, 13 and 21 s, of which the first of each
-// block has the delay bit.
+// What node a counts of six packets of the flow, with the readings 1, 2, 11, 12, 13 and 21 s, of which the first of
+// each block has the delay bit.
 const REPORT: &[u8] = b"version,node,flow,block,count,sum,dcount,dsum
 1,a,voice,0,2,3000000000,1,1000000000
 1,a,voice,1,3,21000000000,1,6000000000
