@@ -1,6 +1,6 @@
 -- What was lost in the network, as a sum over its clusters.
-use Rattle.std.proofs.Common.{◌≡◌, ◌∙◌, ℕ, zero, suc, ◌+◌, ◌<◌, Bool, true, eqb, List, [], ◌∷◌, length, get_or, refl, sym, ap, subst, arith, inl, inr}
-use Rattle.std.specs.Prelude.{ℤ, pos, ◌+ℤ◌, ◌-ℤ◌, fold, map, filter, not, sum_by, Contains}
+use Rattle.std.proofs.Common.{◌≡◌, ◌∙◌, ℕ, zero, suc, ◌+◌, ◌<◌, Bool, true, eqb, List, [], ◌∷◌, length, get_or, refl, sym, subst, arith, inl, inr}
+use Rattle.std.specs.Prelude.{ℤ, pos, ◌+ℤ◌, ◌-ℤ◌, fold, map, not, sum_by, Contains}
 use Rattle.std.specs.List.{list_any, range_with_len}
 use Rattle.std.proofs.lemmas.Bool.{eqb-true, eq-eqb, or_left, or_right, or_cases}
 use Rattle.std.proofs.lemmas.Int.{ints}
@@ -10,12 +10,11 @@ use Rattle.am_domain.specs.declared.link.Edge.{Edge}
 use Rattle.am_domain.specs.Domains.{DomainValue, IsLawful}
 use Rattle.am_domain.specs.Network.{has_links_in, has_links_out}
 use Rattle.am_graph.specs.Lists.{list_at}
-use Rattle.am_graph.specs.Graphs.{graph_of, start_of, end_of}
-use Rattle.am_graph.specs.Clusters.{count_of, IsStart, IsEnd}
-use Rattle.am_control.specs.declared.row.Scope.{Scope}
-use Rattle.am_control.specs.declared.row.Scope.TheVariants.{Cluster, Network}
-use Rattle.am_control.specs.Plans.{LossPlan, IsPlanOf, entering, leaving}
-use Rattle.am_control.specs.Rows.{Measured, node_cell, sum_over, side_cell, loss_row, lost_in, lost_in_clusters}
+use Rattle.am_graph.specs.Graphs.{start_of, end_of}
+use Rattle.am_graph.specs.Clusters.{count_of}
+use Rattle.am_control.specs.declared.row.Scope.TheVariants.{Network}
+use Rattle.am_control.specs.Plans.{LossPlan, IsPlanOf}
+use Rattle.am_control.specs.Rows.{Measured, node_cell, side_cell, loss_row, lost_in, lost_in_clusters}
 use Rattle.am_control.proofs.SumLemmas.{ArePartsOf, sum-of-parts}
 use Rattle.am_control.proofs.SideLemmas.{start-node, end-node}
 

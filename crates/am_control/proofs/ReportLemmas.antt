@@ -1,14 +1,13 @@
 -- The cells of a node's report, and what was measured where there is one of each node.
-use Rattle.std.proofs.Common.{◌≡◌, ◌∙◌, ℕ, zero, suc, ◌+◌, ◌<◌, ◌≤◌, Bool, false, List, [], ◌∷◌, length, get_or, take, map, replicate, Option, Some, None, refl, sym, ap, subst, arith, zero-add}
-use Rattle.std.specs.Prelude.{IsSome, is_some, unwrap_or, sum_by}
+use Rattle.std.proofs.Common.{◌≡◌, ◌∙◌, ℕ, zero, suc, ◌<◌, ◌≤◌, false, List, [], ◌∷◌, length, get_or, take, map, replicate, Option, Some, None, refl, sym, ap, arith, zero-add}
+use Rattle.std.specs.Prelude.{IsSome, is_some, unwrap_or}
 use Rattle.std.proofs.Math.ListN.{get_or-map}
 use Rattle.std.proofs.lemmas.List.{get_or_default, take_all, length-replicate}
 use Rattle.am_cells.specs.declared.cell.Cell.{Cell}
 use Rattle.am_cells.specs.Counts.{no_packets, together}
-use Rattle.am_cells.specs.CellTables.{CellTable, HasCell, HasShape, cell_at}
+use Rattle.am_cells.specs.CellTables.{CellTable, HasCell, cell_at}
 use Rattle.am_domain.specs.Domains.{DomainValue, IsLawful}
 use Rattle.am_control.specs.declared.row.Scope.{Scope}
-use Rattle.am_control.specs.declared.row.LossRow.{LossRow}
 use Rattle.am_control.specs.Plans.{LossPlan, IsPlanOf, entering, leaving}
 use Rattle.am_control.specs.Rows.{Measured, no_table, node_cell, sum_over, side_cell, row_between, loss_row}
 use Rattle.am_control.specs.Controls.{ControlValue, HasPlanShape, HasRow, IsControl, IsComplete, IsMeasuredBy, measured_of, report_at}

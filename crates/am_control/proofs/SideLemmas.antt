@@ -1,17 +1,16 @@
 -- The sides of a domain's plan: lists of few nodes.
-use Rattle.std.proofs.Common.{◌≡◌, ◌∙◌, ℕ, zero, suc, ◌+◌, ◌<◌, ◌≤◌, Bool, true, false, List, [], ◌∷◌, ◌++◌, length, get_or, refl, sym, ap, subst, arith, add-zero, add-one, zero-add}
+use Rattle.std.proofs.Common.{◌≡◌, ◌∙◌, ℕ, zero, suc, ◌+◌, ◌<◌, ◌≤◌, Bool, true, false, List, [], ◌∷◌, ◌++◌, length, get_or, refl, ap, arith, add-zero, add-one, zero-add}
 use Rattle.std.proofs.lemmas.List.{append-nil}
-use Rattle.std.specs.Prelude.{All, Contains, filter, not}
+use Rattle.std.specs.Prelude.{Contains, filter, not}
 use Rattle.std.specs.List.{range_with_len}
 use Rattle.std.proofs.lemmas.List.Elements.{filter-append, All-filter, All-from_get_or, Contains-get_or}
 use Rattle.std.proofs.lemmas.List.FromFn.{length-range_with_len, get_or-range_with_len}
 use Rattle.std.proofs.lemmas.List.Sums.{length-filter, count_by-le-length}
-use Rattle.am_domain.specs.declared.link.Edge.{Edge}
 use Rattle.am_domain.specs.Network.{has_links_in, has_links_out}
 use Rattle.am_domain.specs.Domains.{DomainValue, IsLawful}
-use Rattle.am_graph.specs.Lists.{Ascends, IsListOf, list_at}
+use Rattle.am_graph.specs.Lists.{Ascends, list_at}
 use Rattle.am_graph.specs.Graphs.{graph_of, start_of, end_of}
-use Rattle.am_graph.specs.Clusters.{AreClusters, IsOf, IsStart, IsEnd}
+use Rattle.am_graph.specs.Clusters.{AreClusters, IsStart, IsEnd}
 use Rattle.am_control.specs.Plans.{LossPlan, IsPlanOf, nodes_without}
 use Rattle.am_control.specs.Controls.{IsSide, HasSides}
 

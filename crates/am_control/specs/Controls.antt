@@ -4,7 +4,7 @@ use Rattle.am_cells.specs.CellTables.{CellTable, HasShape}
 use Rattle.am_cells.specs.declared.cells.TheConstants.{MAX_CELLS}
 use Rattle.am_graph.specs.Lists.{list_at}
 use Rattle.am_graph.specs.Clusters.{count_of}
-use Rattle.am_domain.specs.Lists.{AllBelow, IsFirstPlace}
+use Rattle.am_domain.specs.Lists.{IsFirstPlace}
 use Rattle.am_control.specs.declared.row.Scope.{Scope}
 use Rattle.am_control.specs.declared.row.Scope.TheVariants.{Cluster, Network}
 use Rattle.am_control.specs.declared.error.ControlError.{ControlError}

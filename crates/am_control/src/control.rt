@@ -1,6 +1,6 @@
 //! The controller: it takes the report of each node once.
 
-ghost use Rattle.std.specs.Prelude.{◌≡◌, ◌<◌, ◌≤◌, ◌^◌, ℕ, None, replicate, length, IfOk, IfErr, OnOk, OnErr};
+ghost use Rattle.std.specs.Prelude.{◌≡◌, ◌<◌, None, replicate, length, IfOk, IfErr, OnOk, OnErr};
 ghost use Rattle.am_cells.specs.CellTables.{HasShape};
 ghost use Rattle.am_cells.specs.Counts.{IsLawfulCell};
 ghost use Rattle.am_graph.specs.Clusters.{count_of};

@@ -1,6 +1,6 @@
 //! The nodes at the edge of a network: those where packets enter, and those where they leave.
 
-ghost use Rattle.std.specs.Prelude.{◌≡◌, ◌≤◌, ℕ, IfOk, length};
+ghost use Rattle.std.specs.Prelude.{◌≡◌, IfOk};
 ghost use Rattle.am_domain.specs.Network as network;
 ghost use Rattle.am_control.specs.Plans.{nodes_without};
 

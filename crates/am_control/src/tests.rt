@@ -1,6 +1,6 @@
 //! Loss tables of small networks, worked out by hand.
 
-ghost use Rattle.std.specs.Prelude.{◌≡◌, ◌<◌, OnOk};
+ghost use Rattle.std.specs.Prelude.{OnOk};
 ghost use Rattle.am_control.specs.Controls.{IsControlOf};
 
 use crate::{Control, ControlError, write_loss};
@@ -256,10 +256,10 @@ fn a_fault_leaves_a_front(rt: HostRuntime) -> Result<(), Fail> {
     let reports: [&[Row]; 2] = [&[], &[]];
     let mut full = MemSink::new(alloc, 10, Vec::new(alloc))?;
     assert!(rt; !prints(alloc, file.as_str(), &reports, &mut full)?);
-    assert!(rt; full.bytes() == b"scope,flow");
+    assert!(rt; full.bytes() == b"scope,flow".as_slice());
     let mut failing = MemSink::new(alloc, 4096, Vec::from_slice(alloc, &[1])?)?;
     assert!(rt; !prints(alloc, file.as_str(), &reports, &mut failing)?);
-    assert!(rt; failing.bytes() == b"");
+    assert!(rt; failing.bytes().is_empty());
     Ok(())
 }
 

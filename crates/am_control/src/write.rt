@@ -1,6 +1,6 @@
 //! The loss table as text.
 
-ghost use Rattle.std.specs.Prelude.{◌≡◌, ◌<◌, ◌≤◌, ◌++◌, ℕ, List, Option, map, OnOk, OnErr, IfOk, IfErr, length, codes, decimal, string_bytes};
+ghost use Rattle.std.specs.Prelude.{◌≡◌, ◌<◌, ◌≤◌, ◌++◌, Option, OnOk, OnErr, IfOk, IfErr, length, codes, decimal, string_bytes};
 ghost use Rattle.std.specs.Io.KnownBytes.{append_known};
 ghost use Rattle.std.specs.Fmt.{signed_decimal};
 ghost use Rattle.am_base.specs.Sinks.{AppendsFront};

@@ -1,6 +1,6 @@
-use Rattle.std.proofs.Common.{◌≡◌, ◌∙◌, ℕ, sym, ap, arith}
+use Rattle.std.proofs.Common.{◌∙◌, sym, ap, arith}
 use Rattle.am_cells.specs.Counts.{together}
-use Rattle.am_cells.specs.CellTables.{CellTable, HasCell, cell_at}
+use Rattle.am_cells.specs.CellTables.{HasCell, cell_at}
 use Rattle.am_control.proofs.ReportLemmas.{together-none}
 use Rattle.am_control.proofs.control.copy_of.Goals as goal
 

@@ -1,7 +1,7 @@
-use Rattle.std.proofs.Common.{◌≡◌, ◌∙◌, ◌+◌, ◌++◌, [], take, drop, flat_map, refl, sym, ap, subst, arith}
+use Rattle.std.proofs.Common.{◌≡◌, ◌∙◌, ◌+◌, ◌++◌, [], take, drop, flat_map, refl, ap, subst, arith}
 use Rattle.am_base.specs.Sinks.{AppendsFront, IsWrittenOf}
 use Rattle.am_control.specs.Rows.{loss_rows}
-use Rattle.am_control.specs.Texts.{loss_columns, loss_line, loss_text}
+use Rattle.am_control.specs.Texts.{loss_columns, loss_line}
 use Rattle.am_control.proofs.TextLemmas.{piece-more, pieces-front, front-of-front, front-written}
 use Rattle.am_control.proofs.write.write_loss.Goals as goal
 

@@ -1,4 +1,4 @@
-use Rattle.std.proofs.Common.{◌≡◌, ◌∙◌, None, Some, get_or, ap, subst, arith}
+use Rattle.std.proofs.Common.{◌≡◌, ◌∙◌, Some, ap, subst}
 use Rattle.am_control.specs.Controls.{IsControl, report_at}
 use Rattle.am_control.proofs.ReportLemmas.{report-there, has-cell, measured-there}
 use Rattle.am_control.proofs.control.Control.cell.Goals as goal

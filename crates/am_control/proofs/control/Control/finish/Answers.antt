@@ -1,4 +1,4 @@
-use Rattle.std.proofs.Common.{◌≡◌, ◌∙◌, ◌<◌, length, sym, ap, subst, arith}
+use Rattle.std.proofs.Common.{◌<◌, length, sym, ap, subst, arith}
 use Rattle.am_control.specs.Controls.{IsComplete, IsMeasuredBy}
 use Rattle.am_control.proofs.ReportLemmas.{complete-measured, none-there}
 use Rattle.am_control.proofs.control.Control.finish.Goals as goal
