@@ -1,6 +1,6 @@
 -- The captures of a domain's nodes, taken one after another, and the loss table of what was taken.
-use Rattle.std.proofs.Common.{arith, refl, sym, ap, subst, ◌∙◌, ◌≡◌, ℕ, ◌+◌, ◌-◌, ◌<◌, ◌≤◌, suc, List, [], ◌∷◌, ◌++◌, length, get_or, drop, map, Option, Some, None, inl, inr, add-one, below_more, append_assoc}
-use Rattle.std.specs.Prelude.{Result, Ok, IsSome, replicate, slice_set}
+use Rattle.std.proofs.Common.{arith, refl, sym, ap, subst, ◌∙◌, ◌≡◌, ℕ, ◌+◌, ◌-◌, ◌<◌, suc, List, [], ◌∷◌, ◌++◌, length, get_or, drop, map, Option, Some, None, inl, inr, add-one, below_more, append_assoc}
+use Rattle.std.specs.Prelude.{Ok, replicate, slice_set}
 use Rattle.std.proofs.Math.Seq.{drop-cons, drop-length, set-append_seam, get_or-append_seam}
 use Rattle.std.proofs.lemmas.List.{get_or_append_left, get_or-map, append-nil, length-append, length-map, map-append}
 use Rattle.am_cells.specs.CellTables.{CellTable}
@@ -11,7 +11,6 @@ use Rattle.am_control.specs.Texts.{loss_text}
 use Rattle.am_control.specs.declared.error.ControlError.{ControlError}
 use Rattle.am_control.specs.declared.error.ControlError.TheVariants.{ReportTwice, MissingReport, Memory}
 use Rattle.am_domain.specs.Domains.{DomainValue}
-use Rattle.am_domain.specs.Values.{NodeValue}
 use Rattle.am_meter.specs.Metering.{AreMetered}
 use Rattle.am_meter.specs.MeteredFiles.{capture_of, no_node}
 use Rattle.am_meter.specs.declared.stream.Marked.{Marked}
@@ -21,7 +20,7 @@ use Rattle.am_cli.specs.Answers.Ending.{Done}
 use Rattle.am_cli.specs.Chains.Chain.{Writes}
 use Rattle.am_cli.specs.Chains.{Inputs, Output, Judged, Follows, StopsHere, Performs}
 use Rattle.am_cli.specs.Inputs.{JudgesCapture}
-use Rattle.am_cli.specs.Auditing.{TakesFirst, StopsAmong, ReportsIgnoreWorkers, TablesIgnoreWorkers, with_workers}
+use Rattle.am_cli.specs.Auditing.{TakesFirst, ReportsIgnoreWorkers, TablesIgnoreWorkers, with_workers}
 use Rattle.am_cli.specs.commands.Audit.{HaveCells, IsLossTable, audit_from}
 
 -- the nodes from this one on are it and those after it

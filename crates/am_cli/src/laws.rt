@@ -39,5 +39,4 @@ pub fn strip_undoes_mark()
 pub fn workers_change_nothing()
     ensures reports { ReportsIgnoreWorkers }
     ensures tables { TablesIgnoreWorkers }
-{
-}
+{}

@@ -1,5 +1,5 @@
 -- Why a node has no cells is a stop at its capture.
-use Rattle.std.proofs.Common.{ap, sym, ◌∙◌, ◌≡◌, arith, Err, length}
+use Rattle.std.proofs.Common.{ap, ◌∙◌, ◌≡◌, arith, Err, length}
 use Rattle.std.proofs.lemmas.List.{get_or_default}
 use Rattle.am_domain.specs.Values.{NodeValue}
 use Rattle.am_meter.specs.MeteredFiles.{capture_of, no_node}

@@ -1,5 +1,5 @@
 -- The captures of all nodes are taken, and the table of their cells is printed.
-use Rattle.std.proofs.Common.{refl, subst, inl, inr, []}
+use Rattle.std.proofs.Common.{refl, subst, inr, []}
 use Rattle.am_control.specs.Texts.{loss_text}
 use Rattle.am_domain.specs.Domains.{DomainValue}
 use Rattle.am_cli.specs.Answers.Answer.{Ended, WriteFault, NoMemory}

@@ -1,7 +1,6 @@
 -- The node is named or refused; its capture is taken; its report is printed.
 use Rattle.std.proofs.Common.{refl, subst, inl, inr}
 use Rattle.am_domain.specs.Domains.{DomainValue}
-use Rattle.am_meter.specs.MeteredFiles.{capture_of}
 use Rattle.am_report.specs.Rows.{report_text}
 use Rattle.am_cli.specs.Answers.Answer.{Ended, WriteFault}
 use Rattle.am_cli.specs.Answers.Ending.{Done}
