@@ -69,10 +69,11 @@ if [[ $got != 2 ]]; then
     exit 1
 fi
 
-# The files are those that the script beside them writes, but for the domain files and what `check` prints of them.
+# The files are those that the script beside them writes, but for the domain files, and what `check`, `meter` and `audit`
+# print of them.
 python3 "$here/make.py" "$scratch/made"
 (cd -- "$scratch/made" && find . -type f | LC_ALL=C sort) >"$scratch/made.list"
-(cd -- "$here" && find ./two ./chains ./forms ./mixed ./mark ./bad -type f ! -name README.md ! -name '*.toml' ! -name '*.check' ! -name '*.sh' | LC_ALL=C sort) >"$scratch/kept.list"
+(cd -- "$here" && find ./two ./chains ./forms ./mixed ./mark ./split ./bad -type f ! -name README.md ! -name '*.toml' ! -name '*.check' ! -name '*.csv' ! -name '*.audit' ! -name '*.sh' | LC_ALL=C sort) >"$scratch/kept.list"
 if cmp -s "$scratch/made.list" "$scratch/kept.list"; then tally 'names of the example files' yes; else tally 'names of the example files' no; fi
 while IFS= read -r name; do
     if cmp -s -- "$scratch/made/$name" "$here/$name"; then tally "bytes of $name" yes; else tally "bytes of $name" no; fi
@@ -138,6 +139,65 @@ expect_file 'mark, several kinds of traffic' 0 marked.pcap '' mark net.toml plai
 expect_file 'strip, several kinds of traffic' 0 plain.pcap '' strip net.toml marked.pcap
 cd -- "$here/two" || exit 1
 
+# The reports of both points, and the loss table of the domain. All names of captures are those of the folder that the program
+# runs in. Nothing is printed where a capture is missing, is refused or can't be read.
+expect_file 'meter a' 0 a.csv '' meter two.toml a
+expect_file 'meter b' 0 b.csv '' meter two.toml b
+expect 'meter, an unknown node' 3 '' 'altmark: unknown node' meter two.toml z
+expect 'meter, a node in capitals' 3 '' 'altmark: unknown node' meter two.toml A
+expect 'meter, a node of no bytes' 3 '' 'altmark: unknown node' meter two.toml ''
+expect 'meter, a node of 256 bytes' 3 '' 'altmark: unknown node' meter two.toml "$(printf 'a%.0s' {1..256})"
+expect 'meter, a node with a line feed' 3 '' 'altmark: unknown node' meter two.toml $'a\n'
+expect 'meter, a node that is no text' 2 '' '' meter two.toml $'a\xff'
+expect 'meter, a missing domain before an unknown node' 4 '' 'altmark: no.toml: missing' meter no.toml z
+expect 'meter, a refused domain before an unknown node' 3 '' 'altmark: domain: guard 5000000000 is not below half 5000000000' meter ../domains/guard-is-half.toml z
+expect 'meter, a folder as the domain' 5 '' 'altmark: ../two: read fault' meter ../two a
+expect_file 'audit two.toml' 0 two.audit '' audit two.toml
+expect 'audit, a missing domain' 4 '' 'altmark: no.toml: missing' audit no.toml
+expect 'audit, a refused domain' 3 '' 'altmark: domain: guard 5000000000 is not below half 5000000000' audit ../domains/guard-is-half.toml
+expect 'audit, a folder as the domain' 5 '' 'altmark: ../two: read fault' audit ../two
+expect 'audit, a capture as the domain' 3 '' 'altmark: domain: not TOML' audit u.pcap
+mkdir "$scratch/audit"
+cp two.toml u.pcap "$scratch/audit"
+cd -- "$scratch/audit" || exit 1
+expect_file 'meter a, where the capture of b is missing' 0 "$here/two/a.csv" '' meter two.toml a
+expect 'meter, a missing capture' 4 '' 'altmark: v.pcap: missing' meter two.toml b
+expect 'audit, a missing capture' 4 '' 'altmark: v.pcap: missing' audit two.toml
+cp "$here/bad/headers-cut-before-file-ends.pcap" v.pcap
+expect 'meter, a refused capture' 3 '' 'altmark: v.pcap: headers of record 2 are cut' meter two.toml b
+expect 'audit, a refused capture' 3 '' 'altmark: v.pcap: headers of record 2 are cut' audit two.toml
+mv v.pcap u.pcap
+expect 'audit, a refused capture before one that is missing' 3 '' 'altmark: u.pcap: headers of record 2 are cut' audit two.toml
+rm u.pcap && mkdir u.pcap
+expect 'meter, a folder as the capture' 5 '' 'altmark: u.pcap: read fault' meter two.toml a
+expect 'audit, a folder as a capture' 5 '' 'altmark: u.pcap: read fault' audit two.toml
+# The captures exchanged: in block 1 more left than entered, and each packet seems to arrive before it was sent.
+rmdir u.pcap && cp "$here/two/v.pcap" u.pcap && cp "$here/two/u.pcap" v.pcap
+exchanged=$(sed '1!{s/,3,2,1,-/,2,3,-1,-/; s/,0,1000000,/,0,-1000000,/; s/,0,500000,/,0,-500000,/; s/,500000$/,-500000/}' "$here/two/two.audit")
+expect 'audit, captures exchanged' 0 "$exchanged" '' audit two.toml
+# No records: a row for each block all the same.
+cp "$scratch/head.pcap" u.pcap && cp "$scratch/head.pcap" v.pcap
+zeros=$(sed '1!s/^\([^,]*,voice,.\),.*/\1,0,0,0,0,0,0,0/' "$here/two/two.audit")
+expect 'audit, captures without records' 0 "$zeros" '' audit two.toml
+# Captures of other forms, and the flow among other traffic.
+cp "$here/forms/u-big-nano-ethernet.pcap" u.pcap && cp "$here/forms/v-little-micro-ipv6.pcap" v.pcap
+expect_file 'audit, captures of other forms' 0 "$here/two/two.audit" '' audit two.toml
+cp "$here/mixed/u.pcap" u.pcap && cp "$here/mixed/v.pcap" v.pcap
+expect_file 'audit, the flow among other traffic' 0 "$here/two/two.audit" '' audit two.toml
+for workers in 2 64; do
+    sed "s/^place = .*/&\nworkers = $workers/" "$here/two/two.toml" >workers.toml
+    expect_file "audit, $workers workers" 0 "$here/two/two.audit" '' audit workers.toml
+done
+# Several flows, more links than one, and a point that both passes on and delivers.
+cd -- "$here/mark" || exit 1
+expect_file 'audit, two flows' 0 net.audit '' audit net.toml
+cd -- "$here/split" || exit 1
+expect_file 'audit, a point that passes on and delivers' 0 whole.audit '' audit whole.toml
+expect_file 'audit, the same point as two nodes' 0 split.audit '' audit split.toml
+expect 'clusters, a point that passes on and delivers' 0 $'cluster 0 links 0 starts a ends b\ncluster 1 links 1 starts b ends c' '' clusters whole.toml
+expect 'clusters, the same point as two nodes' 0 $'cluster 0 links 0 1 starts a ends b bd\ncluster 1 links 2 starts b ends c' '' clusters split.toml
+cd -- "$here/two" || exit 1
+
 # Words that are no command.
 refuses 'no words'
 refuses 'an unknown command' lose 10000000000 0 74565 u.pcap v.pcap
@@ -177,6 +237,16 @@ for words in check 'check two.toml two.toml' 'check 1 two.toml' 'Check two.toml'
     read -ra split <<<"$words"
     refuses "'$words'" "${split[@]}"
 done
+for words in audit 'audit two.toml x' 'Audit two.toml' 'audits two.toml' 'two.toml audit' meter 'meter two.toml' 'meter two.toml a b' 'Meter two.toml a' 'meters two.toml a'; do
+    read -ra split <<<"$words"
+    refuses "'$words'" "${split[@]}"
+done
+refuses 'audit, an empty name' audit ''
+refuses 'audit, a name of 256 bytes' audit "a$long"
+refuses 'audit, a name with a line feed' audit $'two\n.toml'
+refuses 'meter, an empty name' meter '' a
+refuses 'meter, a name of 256 bytes' meter "a$long" a
+refuses 'meter, a name with U+007F' meter $'two\x7f.toml' a
 refuses 'check, an empty name' check ''
 refuses 'check, a word behind the name' check two.toml ''
 refuses 'check, a name of 256 bytes' check "a$long"
@@ -398,6 +468,14 @@ if [[ -c /dev/full && -w /dev/full ]]; then
     to_full 'check to a full device, as many of each as there may be' 6 'altmark: write fault' check most.toml
     to_full 'check to a full device, refused' 3 'altmark: domain: too many cells: 65536' check cells.toml
     to_full 'check to a full device, missing' 4 'altmark: missing.toml: missing' check missing.toml
+    # So do `meter` and `audit`, and not before the last capture was read.
+    cp "$here/two/two.toml" "${two[@]}" "$scratch/audit"
+    cd -- "$scratch/audit" || exit 1
+    to_full 'meter to a full device' 6 'altmark: write fault' meter two.toml a
+    to_full 'meter to a full device, an unknown node' 3 'altmark: unknown node' meter two.toml z
+    to_full 'audit to a full device' 6 'altmark: write fault' audit two.toml
+    to_full 'audit to a full device, a missing domain' 4 'altmark: no.toml: missing' audit no.toml
+    cd -- "$scratch" || exit 1
     "$altmark" </dev/null >stdout 2>/dev/full
     got=$?
     if [[ $got == 2 && ! -s stdout ]]; then tally 'no words, with a full standard error' yes; else tally 'no words, with a full standard error' no "status $got"; fi

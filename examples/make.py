@@ -1,6 +1,6 @@
 #!/usr/bin/env python3
-"""Writes the example captures, each with what the program says of it beside it: those of two/, chains/, forms/, mixed/,
-mark/ and bad/.
+"""Writes the example captures, those that are shown with what the program says of them beside them: two/, chains/, forms/,
+mixed/, mark/, split/ and bad/.
 
     make.py [FOLDER]
 
@@ -307,6 +307,23 @@ def mixed():
         yield name, capture, shown
 
 
+# The captures of split/: when each packet passed, in microseconds after its second, and which of the five packets did. Packet
+# n enters at second n, all in block 0; the first has the delay bit. Packets 3 and 5 end at b.
+SPLIT = [
+    ("a", 0, [1, 2, 3, 4, 5]),
+    ("b", 500, [1, 2, 3, 4, 5]),
+    ("b-on", 500, [1, 2, 4]),
+    ("b-here", 500, [3, 5]),
+    ("c", 1000, [1, 2, 4]),
+]
+
+
+def split():
+    """Each of these captures by name."""
+    for name, late, packets in SPLIT:
+        yield name, HEAD + b"".join(marked(n, late, CLEAR_DELAY if n == 1 else CLEAR) for n in packets)
+
+
 # Files that both commands refuse, by name, which says the fault: what the line says behind the file's name, the bytes, and
 # the lines that `show` prints before it refuses.
 GZIP = bytes.fromhex("1f8b0800") + bytes(26)
@@ -411,6 +428,8 @@ def files():
     plain, with_marks = insertion.captures(file_head("little", "micro", "ethernet"), record)
     yield "mark/plain.pcap", plain
     yield "mark/marked.pcap", with_marks
+    for name, capture in split():
+        yield f"split/{name}.pcap", capture
     for name, bytes_, refused, shown in bad():
         yield f"bad/{name}.pcap", bytes_
         yield f"bad/{name}.line", refused.encode()
