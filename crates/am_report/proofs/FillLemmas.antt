@@ -1,19 +1,18 @@
 -- What is left where one more row of a report was taken.
-use Rattle.std.proofs.Common.{◌≡◌, ◌≢◌, ◌⊎◌, ◌∙◌, ℕ, zero, suc, ◌+◌, ◌-◌, ◌*◌, ◌<◌, ◌≤◌, List, [], ◌∷◌, ◌++◌, get_or, length, Option, Some, None, refl, sym, ap, subst, arith, inl, inr}
+use Rattle.std.proofs.Common.{◌≡◌, ◌≢◌, ◌⊎◌, ◌∙◌, ℕ, zero, suc, ◌+◌, ◌-◌, ◌<◌, ◌≤◌, List, [], ◌∷◌, ◌++◌, get_or, length, Option, Some, None, refl, sym, ap, arith, inl, inr}
 use Rattle.std.specs.Prelude.{All, IfSome, MatchOption}
-use Rattle.std.proofs.lemmas.Bool.{cases_lt, cases_eq}
+use Rattle.std.proofs.lemmas.Bool.{cases_eq}
 use Rattle.std.proofs.lemmas.List.{length-append}
 use Rattle.std.proofs.lemmas.List.Elements.{All-nil, All-push}
 use Rattle.std.proofs.lemmas.List.Sums.{sum_by_push}
 use Rattle.std.proofs.lemmas.Nat.{same_from_place}
 use Rattle.am_cells.specs.declared.cell.Cell.{Cell}
 use Rattle.am_cells.specs.Counts.{no_packets, together}
-use Rattle.am_cells.specs.CellTables.{CellTable, HasCell, HasShape, HaveOneShape, AddsTo, ChangesOnly, cell_number, cell_at, total_of}
+use Rattle.am_cells.specs.CellTables.{CellTable, HasCell, HaveOneShape, AddsTo, cell_number, cell_at}
 use Rattle.am_domain.specs.Domains.{DomainValue}
 use Rattle.am_domain.specs.Network.{IsNumberOf}
 use Rattle.am_domain.specs.Values.{NodeValue}
 use Rattle.am_report.specs.Rows.{RowValue}
-use Rattle.am_report.specs.Reports.{packets_of}
 use Rattle.am_report.specs.Filling.{IsFilling, IsFilled}
 use Rattle.am_report.specs.declared.filling.Filling.{Filling}
 

@@ -1,5 +1,5 @@
 -- The text that is written of a node and its cells is read back as them.
-use Rattle.std.proofs.Common.{◌≡◌, ◌≢◌, ◌∙◌, ℕ, zero, suc, ◌+◌, ◌-◌, ◌*◌, ◌/◌, ◌%◌, ◌^◌, ◌<◌, ◌≤◌, List, [], ◌∷◌, ◌++◌, get_or, take, length, Option, Some, None, refl, sym, ap, subst, arith, add-zero, add-one, zero-add, append_assoc}
+use Rattle.std.proofs.Common.{◌≡◌, ◌∙◌, ℕ, zero, suc, ◌+◌, ◌-◌, ◌*◌, ◌/◌, ◌%◌, ◌^◌, ◌<◌, ◌≤◌, List, [], ◌∷◌, ◌++◌, take, length, Option, None, refl, sym, ap, subst, arith, add-zero, add-one, zero-add, append_assoc}
 use Rattle.std.specs.Prelude.{All, map, flat_map, sum_by}
 use Rattle.std.specs.List.{range_with_len}
 use Rattle.std.proofs.Math.Nat.{suc-mul, zero-mul, mul_comm, div-add-mod, div-lt_iff_lt-mul, le-mul_of_pos_right, mod-lt}
@@ -11,18 +11,17 @@ use Rattle.std.proofs.lemmas.List.FromFn.{length-map-range_with_len, map-range_w
 use Rattle.std.proofs.lemmas.List.Sums.{sum_by_more, sum_by_more_le}
 use Rattle.csv.specs.Machine.{Read, next_record}
 use Rattle.csv.specs.Reading.{Reached, default_config, strip_bom}
-use Rattle.csv.specs.Writing.{default_writer, fields_text, is_blank, row_text}
+use Rattle.csv.specs.Writing.{fields_text, is_blank}
 use Rattle.csv.specs.declared.parser.State.TheVariants as state
 use Rattle.csv.proofs.RoundTrip.{read-write-many}
 use Rattle.am_cells.specs.declared.cell.Cell.{Cell}
-use Rattle.am_cells.specs.declared.cell.TheConstants.{MAX_COUNT}
 use Rattle.am_cells.specs.Counts.{IsLawfulCell, no_packets}
-use Rattle.am_cells.specs.CellTables.{CellTable, IsCellTable, HasShape, cell_in, cell_at, total_of}
+use Rattle.am_cells.specs.CellTables.{CellTable, IsCellTable, HasShape, cell_in, cell_at}
 use Rattle.am_domain.specs.Domains.{DomainValue, IsLawful}
 use Rattle.am_domain.specs.Network.{IsNumberOf}
 use Rattle.am_domain.specs.Values.{NodeValue}
 use Rattle.am_report.specs.Rows.{RowValue, column_names, row_fields, fields_line, head_line, report_line, row_at, block_rows, report_rows, report_text, node_name, no_node}
-use Rattle.am_report.specs.Reports.{AreRows, IsRow, IsTaken, IsOfFirstNode, IsWanted, TakesRows, IsReportOf, packets_of}
+use Rattle.am_report.specs.Reports.{AreRows, IsTaken, IsOfFirstNode, IsWanted, TakesRows, IsReportOf, packets_of}
 use Rattle.am_report.proofs.ReadLemmas.{same-parts}
 use Rattle.am_report.proofs.TextLemmas.{flat-more, range-suc}
 

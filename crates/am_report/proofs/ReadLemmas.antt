@@ -1,23 +1,23 @@
 -- Rows that are read one after another, and what their text is then.
-use Rattle.std.proofs.Common.{◌≡◌, ◌≢◌, ◌∙◌, ℕ, zero, suc, ◌+◌, ◌-◌, ◌*◌, ◌^◌, ◌<◌, ◌≤◌, List, [], ◌∷◌, ◌++◌, get_or, length, add-zero, Some, None, Result, Ok, Err, refl, sym, ap, arith, inl, inr}
-use Rattle.std.specs.Prelude.{All, IfOk, IfErr, map, decimal}
-use Rattle.std.proofs.lemmas.List.{ext_get_or, get_or_default}
+use Rattle.std.proofs.Common.{◌≡◌, ◌∙◌, ℕ, ◌+◌, ◌-◌, ◌*◌, ◌^◌, ◌<◌, List, [], ◌∷◌, ◌++◌, get_or, length, add-zero, Some, Result, Ok, Err, sym, ap, arith}
+use Rattle.std.specs.Prelude.{IfOk, IfErr, map}
+use Rattle.std.proofs.lemmas.List.{ext_get_or}
 use Rattle.std.proofs.lemmas.Nat.{same_from_place}
 use Rattle.std.proofs.Math.ListN.{get_or-map, length-map}
 use Rattle.std.proofs.Math.Nat.{mul_comm}
 use Rattle.am_cells.specs.declared.cell.Cell.{Cell}
 use Rattle.am_cells.specs.Counts.{IsLawfulCell, no_packets}
-use Rattle.am_cells.specs.CellTables.{CellTable, IsCellTable, HasCell, cell_number, cell_in, cell_at}
+use Rattle.am_cells.specs.CellTables.{CellTable, IsCellTable, HasCell, cell_number}
 use Rattle.am_domain.specs.Domains.{DomainValue}
-use Rattle.am_report.specs.Rows.{RowValue, SpellsRow, column_names}
-use Rattle.am_report.specs.Reports.{IsTaken, TakesRows, AreRows, AreAllTaken, IsRowRefusal, IsReportOf, IsWanted, TellsReportRefusal}
+use Rattle.am_report.specs.Rows.{RowValue, SpellsRow}
+use Rattle.am_report.specs.Reports.{IsTaken, TakesRows, AreAllTaken, IsRowRefusal, IsReportOf, IsWanted, TellsReportRefusal}
 use Rattle.am_report.specs.Filling.{IsFilling, IsFilled, Comes}
 use Rattle.am_report.specs.declared.filling.Filling.{Filling}
 use Rattle.am_report.specs.declared.read.Report.{Report}
 use Rattle.am_report.specs.declared.error.ReportError.{ReportError}
 use Rattle.am_report.specs.declared.error.ReportError.TheVariants.{BadHeader, BadRow, UnknownNode, OtherNode, UnknownFlow, NotInOrder, Short, Memory}
 use Rattle.am_report.proofs.DecimalLemmas.{decimal-one}
-use Rattle.am_report.proofs.FieldLemmas.{RowFields, fields-by-row}
+use Rattle.am_report.proofs.FieldLemmas.{fields-by-row}
 
 -- the numbers of a lawful cell have 128 bits
 pub cell-fits : (c : Cell) → IsLawfulCell c

@@ -1,10 +1,9 @@
 -- The parts of a row are the row.
-use Rattle.std.proofs.Common.{◌≡◌, ◌∙◌, ℕ, ◌^◌, ◌<◌, ◌≤◌, List, length, Option, Some, None, sym, ap, arith}
-use Rattle.std.specs.Prelude.{codes, decimal}
+use Rattle.std.proofs.Common.{◌≡◌, ◌∙◌, ℕ, ◌^◌, ◌<◌, List, length, Some, None, sym}
+use Rattle.std.specs.Prelude.{codes}
 use Rattle.csv.specs.Records.{field_at}
 use Rattle.am_cells.specs.declared.cell.Cell.{Cell}
-use Rattle.am_cells.specs.Counts.{IsLawfulCell}
-use Rattle.am_report.specs.Rows.{RowValue, SpellsRow, row_fields}
+use Rattle.am_report.specs.Rows.{RowValue, SpellsRow}
 use Rattle.am_report.specs.RowParts.{IsNumberField, IsCellThere}
 use Rattle.am_report.proofs.DecimalLemmas.{decimal-one}
 use Rattle.am_report.proofs.FieldLemmas.{RowFields, fields-by-row, row-by-fields}

@@ -5,9 +5,9 @@ use Rattle.std.proofs.lemmas.List.Elements.{All-head}
 use Rattle.am_cells.specs.declared.cell.TheConstants.{MAX_COUNT}
 use Rattle.am_cells.specs.CellTables.{AddsTo, total_of}
 use Rattle.am_domain.specs.Domains.{DomainValue}
-use Rattle.am_domain.specs.Network.{IsNumberOf, IsNoNode, IsNode}
+use Rattle.am_domain.specs.Network.{IsNumberOf}
 use Rattle.am_report.specs.Rows.{RowValue, SpellsRow, node_name, no_node}
-use Rattle.am_report.specs.Reports.{IsRow, IsTaken, IsOfFirstNode, IsFlowNumber, IsNoFlow, IsWanted, KnowsNode, RefusesRow}
+use Rattle.am_report.specs.Reports.{IsRow, IsTaken, IsOfFirstNode, IsFlowNumber, IsWanted, KnowsNode, RefusesRow}
 use Rattle.am_report.specs.Filling.{IsFilling, IsFilled, TellsNode, TellsPair}
 use Rattle.am_report.specs.declared.filling.Filling.{Filling}
 use Rattle.am_report.specs.declared.error.ReportError.{ReportError}

@@ -1,16 +1,12 @@
 -- Rows are taken in one way, and a row that is taken isn't refused.
-use Rattle.std.proofs.Common.{◌≡◌, ◌≢◌, ◌⊎◌, ◌∙◌, ℕ, ◌+◌, ◌-◌, ◌*◌, ◌<◌, ◌≤◌, List, [], ◌∷◌, ◌++◌, get_or, length, refl, sym, ap, subst, arith, inl, inr}
-use Rattle.std.specs.Prelude.{All, map}
+use Rattle.std.proofs.Common.{◌≡◌, ◌∙◌, ℕ, ◌+◌, ◌-◌, ◌*◌, ◌<◌, List, [], ◌∷◌, ◌++◌, length, sym, subst, arith, inl, inr}
 use Rattle.std.proofs.lemmas.Bool.{cases_lt}
-use Rattle.std.proofs.lemmas.List.{append-nil}
-use Rattle.std.proofs.lemmas.List.Elements.{All-head}
 use Rattle.std.proofs.lemmas.Nat.{same_from_place, mul-add-lt}
 use Rattle.am_domain.specs.Domains.{DomainValue, IsLawful}
-use Rattle.am_domain.specs.Lists.{AllBelow}
 use Rattle.am_domain.specs.Network.{IsNode, IsNoNode, IsNumberOf}
-use Rattle.am_domain.specs.Values.{FlowValue, NodeValue}
-use Rattle.am_report.specs.Rows.{RowValue, flow_name, no_flow, no_node}
-use Rattle.am_report.specs.Reports.{IsRow, IsTaken, KnowsNode, IsOfFirstNode, IsFlowNumber, IsNoFlow, IsWanted, RefusesRow, TakesRows}
+use Rattle.am_domain.specs.Values.{NodeValue}
+use Rattle.am_report.specs.Rows.{RowValue, no_flow, no_node}
+use Rattle.am_report.specs.Reports.{IsRow, IsTaken, IsOfFirstNode, IsFlowNumber, IsWanted, RefusesRow, TakesRows}
 use Rattle.am_report.specs.declared.error.ReportError.{ReportError}
 use Rattle.am_report.specs.declared.error.ReportError.TheVariants.{BadHeader, BadRow, UnknownNode, OtherNode, UnknownFlow, NotInOrder, Short, Memory}
 use Rattle.am_report.proofs.ReadLemmas.{one-row}

@@ -5,9 +5,7 @@ use Rattle.csv.specs.declared.parser.State.{State}
 use Rattle.csv.specs.declared.parser.State.TheVariants as state
 use Rattle.am_cells.specs.declared.cell.TheConstants.{MAX_COUNT}
 use Rattle.am_domain.specs.Domains.{DomainValue}
-use Rattle.am_domain.specs.Lists.{AllBelow}
 use Rattle.am_domain.specs.Network.{IsNode, IsNoNode, IsNumberOf}
-use Rattle.am_domain.specs.Values.{FlowValue}
 use Rattle.am_report.specs.Rows.{RowValue, SpellsRow, column_names, flow_name}
 use Rattle.am_report.specs.declared.error.ReportError.{ReportError}
 use Rattle.am_report.specs.declared.error.ReportError.TheVariants.{BadHeader, BadRow, UnknownNode, OtherNode, UnknownFlow, NotInOrder, Short, Memory}

@@ -1,6 +1,6 @@
 -- What a reader of a text's rows has read so far.
-use Rattle.std.specs.Prelude.{◌≡◌, ℕ, List, Option, Some, false}
-use Rattle.csv.specs.Reading.{Reached, Ready, default_config, has_failed, reader_config, reader_state, reader_trim, source_of, strip_bom}
+use Rattle.std.specs.Prelude.{◌≡◌, ℕ, List, Some}
+use Rattle.csv.specs.Reading.{Reached, Ready, default_config, reader_config, reader_state, reader_trim, source_of, strip_bom}
 use Rattle.csv.specs.declared.parser.State.TheVariants as state
 use Rattle.csv.specs.declared.reader.Reader.{Reader}
 use Rattle.csv.specs.declared.reader.Trim.TheVariants as trim

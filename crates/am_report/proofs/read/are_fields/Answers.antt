@@ -1,6 +1,6 @@
-use Rattle.std.proofs.Common.{◌∙◌, sym, ap, [], arith, List, ℕ, Some}
+use Rattle.std.proofs.Common.{◌∙◌, sym, ap, arith, List, ℕ, Some}
 use Rattle.std.specs.Prelude.{map}
-use Rattle.csv.specs.Records.{field_at, fields_of}
+use Rattle.csv.specs.Records.{field_at}
 use Rattle.std.proofs.Math.ListN.{get_or-map, length-map}
 use Rattle.am_report.proofs.FieldLemmas.{same-fields, field-of}
 use Rattle.am_report.proofs.read.are_fields.Goals as goal

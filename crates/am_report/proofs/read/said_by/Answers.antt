@@ -1,4 +1,4 @@
-use Rattle.std.proofs.Common.{[], ◌∷◌, ◌++◌, refl, inl, inr}
+use Rattle.std.proofs.Common.{[], ◌∷◌, ◌++◌, refl, inr}
 use Rattle.csv.specs.Records.{fields_of}
 use Rattle.am_report.specs.Rows.{column_names}
 use Rattle.am_report.proofs.ReadLemmas.{said-report, takes-more, tells-row}

@@ -1,7 +1,6 @@
 use Rattle.std.proofs.Common.{◌∙◌, Some, sym, ap}
 use Rattle.std.specs.Prelude.{decimal}
 use Rattle.std.proofs.lemmas.Option.{same_Some}
-use Rattle.am_base.specs.Numbers.{IsDecimal}
 use Rattle.am_report.proofs.DecimalLemmas.{canonical, is-decimal}
 use Rattle.am_report.proofs.row.number_at.Goals as goal
 

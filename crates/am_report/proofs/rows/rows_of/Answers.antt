@@ -1,4 +1,4 @@
-use Rattle.std.proofs.Common.{◌∙◌, sym, refl, inl, inr}
+use Rattle.std.proofs.Common.{◌∙◌, sym, refl, inr}
 use Rattle.csv.specs.Reading.{Reached, strip_bom}
 use Rattle.am_report.proofs.rows.rows_of.Goals as goal
 

@@ -1,4 +1,4 @@
-use Rattle.std.proofs.Common.{◌∙◌, [], Ok, Err}
+use Rattle.std.proofs.Common.{[]}
 use Rattle.am_report.proofs.LineLemmas.{said-text}
 use Rattle.am_report.proofs.write.head_bytes.Goals as goal
 

@@ -1,4 +1,4 @@
-use Rattle.std.proofs.Common.{[], ℕ, arith, suc, ◌+◌, ◌-◌, ◌≡◌}
+use Rattle.std.proofs.Common.{[], arith, suc, ◌+◌, ◌-◌, ◌≡◌}
 use Rattle.am_report.proofs.LineLemmas.{as-text, said-text}
 use Rattle.am_report.proofs.TextLemmas.{lines-none, lines-more, lines-all}
 use Rattle.am_report.proofs.write.report_bytes.Goals as goal

@@ -1,4 +1,4 @@
-use Rattle.std.proofs.Common.{ℕ, List, ◌≡◌, ◌+◌, ◌<◌, ◌∙◌, Some, sym, ap, refl, inl, inr, arith}
+use Rattle.std.proofs.Common.{◌<◌, ◌∙◌, refl, inl, inr, arith}
 use Rattle.am_report.specs.RowParts.{row_said}
 use Rattle.am_report.proofs.TakeLemmas.{refuse-count, is-row, refuse-node, refuse-flow, refuse-block, of-first, takes-it, knows}
 use Rattle.am_report.proofs.filling.Filling.take.Goals as goal
