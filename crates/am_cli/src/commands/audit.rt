@@ -23,7 +23,8 @@ pub struct AuditWords<'a> {
 
 /// DOMAIN.
 pub fn words_of(words: &[String]) -> Option<AuditWords<'_>>
-    ensures only { IfSome result (λ w. SaysAuditWords (map string_bytes words.now) (audit_shown w)) }
+    ensures only { IfSome result
+        (λ w. SaysAuditWords (map string_bytes words.now) (audit_shown w)) }
     ensures none { IfNone result ((a : Audit) → SaysAuditWords (map string_bytes words.now) a → ⊥) }
 {
     match words {

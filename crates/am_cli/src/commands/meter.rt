@@ -22,7 +22,8 @@ pub struct MeterWords<'a> {
 
 /// DOMAIN NODE.
 pub fn words_of(words: &[String]) -> Option<MeterWords<'_>>
-    ensures only { IfSome result (λ w. SaysMeterWords (map string_bytes words.now) (meter_shown w)) }
+    ensures only { IfSome result
+        (λ w. SaysMeterWords (map string_bytes words.now) (meter_shown w)) }
     ensures none { IfNone result ((m : Meter) → SaysMeterWords (map string_bytes words.now) m → ⊥) }
 {
     match words {
