@@ -79,6 +79,15 @@ while IFS= read -r name; do
     if cmp -s -- "$scratch/made/$name" "$here/$name"; then tally "bytes of $name" yes; else tally "bytes of $name" no; fi
 done <"$scratch/made.list"
 
+# The captures of twelve/, and the loss table beside them, are those that traffic.py writes.
+python3 "$here/traffic.py" "$scratch/traffic"
+(cd -- "$scratch/traffic" && find . -type f | LC_ALL=C sort) >"$scratch/made.list"
+(cd -- "$here/twelve" && find . -name '*.pcap' -o -name '*.audit' | LC_ALL=C sort) >"$scratch/kept.list"
+if cmp -s "$scratch/made.list" "$scratch/kept.list"; then tally 'names of the files of twelve/' yes; else tally 'names of the files of twelve/' no; fi
+while IFS= read -r name; do
+    if cmp -s -- "$scratch/traffic/$name" "$here/twelve/$name"; then tally "bytes of twelve/$name" yes; else tally "bytes of twelve/$name" no; fi
+done <"$scratch/made.list"
+
 # The run of the walk in two/README.md, and its neighbours.
 expect 'two captures' 0 "$table" '' link 10000000000 0 74565 examples/two/u.pcap examples/two/v.pcap
 cd -- "$here/two" || exit 1
@@ -196,6 +205,22 @@ expect_file 'audit, a point that passes on and delivers' 0 whole.audit '' audit 
 expect_file 'audit, the same point as two nodes' 0 split.audit '' audit split.toml
 expect 'clusters, a point that passes on and delivers' 0 $'cluster 0 links 0 starts a ends b\ncluster 1 links 1 starts b ends c' '' clusters whole.toml
 expect 'clusters, the same point as two nodes' 0 $'cluster 0 links 0 1 starts a ends b bd\ncluster 1 links 2 starts b ends c' '' clusters split.toml
+# Twelve points. The table is what the packets' ways give. Its rows with a loss, and the sums over the network, are also worked
+# out from the list of drops and the clusters alone.
+cd -- "$here/twelve" || exit 1
+expect_file 'audit, twelve points' 0 twelve.audit '' audit twelve.toml
+awk -F, 'NR > 1 && $6 != 0 { print $1 "," $2 "," $3 "," $6 }' "$scratch/stdout" >"$scratch/losses"
+if python3 "$here/traffic.py" --drops | cmp -s - "$scratch/losses" && [[ -s $scratch/losses ]]; then
+    tally 'audit, the known drops of twelve points' yes
+else
+    tally 'audit, the known drops of twelve points' no "$(python3 "$here/traffic.py" --drops | diff - "$scratch/losses" | head -c 200 | tr '\n' '|')"
+fi
+awk -F, '$1 == "network" { i[$2] += $4; o[$2] += $5; l[$2] += $6 } END { for (f in i) print f "," i[f] "," o[f] "," l[f] }' "$scratch/stdout" | LC_ALL=C sort >"$scratch/sums"
+if python3 "$here/traffic.py" --sums | LC_ALL=C sort | cmp -s - "$scratch/sums" && [[ -s $scratch/sums ]]; then
+    tally 'audit, the sums over the network of twelve points' yes
+else
+    tally 'audit, the sums over the network of twelve points' no "$(tr '\n' '|' <"$scratch/sums")"
+fi
 cd -- "$here/two" || exit 1
 
 # Words that are no command.
@@ -308,6 +333,52 @@ expect 'clusters, a folder' 5 '' 'altmark: ../two: read fault' clusters ../two
 if command -v dot >"$scratch/dot"; then
     python3 "$here/picture.py" ../twelve/twelve.check ../twelve/twelve.clusters >"$scratch/network.dot"
     if dot -Tsvg "$scratch/network.dot" >"$scratch/network.svg"; then tally 'picture of twelve.toml' yes; else tally 'picture of twelve.toml' no; fi
+fi
+
+# Loss tables as pictures. In what gnuplot gets there is a bar for each row with a loss, and a level, which has two ends, for
+# each row with the delay of a packet. Where gnuplot is installed both pictures are drawn, and name each scope and flow.
+for name in two twelve; do
+    rows=$here/$name/$name.audit
+    bars=$(python3 "$here/plots/panels.py" "$rows" loss | grep -cE '^[0-9.]+ -?[0-9]+ [0-9.]+$')
+    tally "bars of $name.audit" "$([[ $bars == $(awk -F, 'NR > 1 && $6 != 0' "$rows" | wc -l) ]] && echo yes)" "$bars"
+    ends=$(python3 "$here/plots/panels.py" "$rows" delay | grep -cE '^-?[0-9.]+ -?[0-9.]+$')
+    tally "levels of $name.audit" "$([[ $ends == $((2 * $(awk -F, 'NR > 1 && $7 != "-" && $5 > 0' "$rows" | wc -l))) ]] && echo yes)" "$ends"
+done
+# drawn TABLE: whether both pictures of it are XML, with the names of its scopes and flows
+drawn() {
+    python3 - "$1" "$scratch"/plots/{loss,delay}.svg <<'END'
+import csv, sys
+from xml.etree import ElementTree
+with open(sys.argv[1], newline="") as table:
+    rows = list(csv.DictReader(table))
+names = {row["flow"] for row in rows} | {row["scope"] if row["scope"] == "network" else f"cluster {row['scope']}" for row in rows}
+for picture in sys.argv[2:]:
+    root = ElementTree.parse(picture).getroot()
+    if not names <= {"".join(item.itertext()).strip() for item in root.iter() if item.tag.endswith("}text")}:
+        sys.exit(f"{picture} lacks a name")
+END
+}
+if command -v gnuplot >"$scratch/gnuplot"; then
+    for name in two twelve; do
+        rm -rf "$scratch/plots"
+        "$here/plots/plot.sh" "$here/$name/$name.audit" "$scratch/plots" 2>"$scratch/stderr"
+        got=$?
+        if [[ $got == 0 && ! -s $scratch/stderr ]] && drawn "$here/$name/$name.audit" 2>"$scratch/stderr"; then
+            tally "pictures of $name.audit" yes
+        else
+            tally "pictures of $name.audit" no "status $got, '$(tail -n 1 "$scratch/stderr" | head -c 200)'"
+        fi
+    done
+    for name in two/two.toml two/u.pcap two/none; do
+        "$here/plots/plot.sh" "$here/$name" "$scratch/plots" 2>"$scratch/stderr"
+        got=$?
+        if [[ $got == 3 && $(wc -l <"$scratch/stderr") == 1 ]]; then tally "pictures of $name, which is no table" yes; else tally "pictures of $name, which is no table" no "status $got"; fi
+    done
+else
+    echo "skipped: pictures of loss tables: gnuplot isn't installed"
+    "$here/plots/plot.sh" "$here/two/two.audit" "$scratch/plots" 2>"$scratch/stderr"
+    got=$?
+    if [[ $got == 4 && $(wc -l <"$scratch/stderr") == 1 ]]; then tally 'pictures without gnuplot' yes; else tally 'pictures without gnuplot' no "status $got"; fi
 fi
 
 # Files that aren't there, or can't be read.

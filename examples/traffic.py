@@ -1,18 +1,17 @@
 #!/usr/bin/env python3
-"""Writes traffic over the network of twelve/twelve.toml, with drops that are known: a capture of each of its twelve points,
-and what `audit` prints of them.
+"""Writes traffic over the network of twelve/twelve.toml, with drops that are known: a capture of each of its twelve
+points, and what `audit` prints of them.
 
-    traffic.py [FOLDER]         writes p1.pcap to p12.pcap and twelve.audit into FOLDER, and into twelve/ beside this script
-                                if left out
-    traffic.py --drops          prints the rows of the loss table that show a loss, by the list of drops alone:
-                                scope,flow,block,lost
-    traffic.py --sums           prints what the rows of the network add up to, by that list alone: flow,in,out,lost
+    traffic.py [FOLDER]     writes p1.pcap to p12.pcap and twelve.audit into FOLDER, and into twelve/ beside this script
+                            if left out
+    traffic.py --drops      prints the rows of the loss table that show a loss: scope,flow,block,lost
+    traffic.py --sums       prints what the rows of the network add up to: flow,in,out,lost
 
-What is written is always the same. In each block each flow has as many packets as it has ways through the network below, and
-packet k takes way k. What becomes of a packet is worked out from its way and from the list of drops, and the table is made
-of that, by the rules of docs/formats.md; the captures aren't read, and the program plays no part in it. The flows, the nodes,
-their spans, the links and the reported blocks are those of twelve/twelve.check, and the clusters those of
-twelve/twelve.clusters.
+What is written is always the same. In each block each flow has as many packets as it has ways through the network, and
+packet k takes way k. Rows and sums are worked out from the list of drops and the clusters alone. The table is worked
+out from the ways of the packets, by the rules of docs/formats.md. The captures aren't read, and the program plays no
+part in it. The reported blocks, flows, nodes with their spans, and links are those of twelve/twelve.check, and the
+clusters those of twelve/twelve.clusters.
 """
 import ipaddress
 import os
@@ -38,13 +37,17 @@ WAYS = {
     "web": ["p1 p3 p6 p8 p11", "p1 p4 p6 p9 p12", "p2 p4 p6 p9 p11", "p1 p4 p7 p10"],
 }
 
-# When the packets enter: the first so long after its block begins, each other so long after the one before, by the clock of
-# the node where they enter. The last packet of voice enters 2 milliseconds before its block ends, and passes the other
-# points when the next block has begun.
-ENTERS = {"voice": (2_000_000, 1_999_200_000), "video": (500_000_000, 2_200_000_000), "web": (1_000_000_000, 2_500_000_000)}
+# When the packets enter, by the clock of the node where they do: the first so long after its block begins, each other
+# so long after the one before. The last packet of voice enters 2 milliseconds before its block ends, and passes the
+# other points when the next block has begun.
+ENTERS = {
+    "voice": (2_000_000, 1_999_200_000),
+    "video": (500_000_000, 2_200_000_000),
+    "web": (1_000_000_000, 2_500_000_000),
+}
 
-# The drops: flow, block, which of the flow's packets of that block, and the link on which it is lost. The first and the last
-# are in blocks that aren't reported.
+# The drops: flow, block, which of the flow's packets of that block, and the link on which it is lost. The first and the
+# last are in blocks that aren't reported.
 DROPS = [
     ("voice", 170000000, 5, "p4 p6"),
     ("voice", 170000003, 1, "p1 p3"),
@@ -68,8 +71,8 @@ DROPS = [
     ("voice", 170000031, 1, "p1 p3"),
 ]
 
-# How long a packet takes over a link at least, in milliseconds. Up to 0.4 come to it. In some blocks a queue stands in front
-# of one of the links, and packets wait.
+# How long a packet takes over a link at least, in milliseconds. Up to 0.4 come to it. In some blocks a queue stands in
+# front of one of the links, and packets wait.
 TAKES = {
     "p1 p3": 4, "p1 p4": 6, "p2 p4": 5, "p2 p5": 9, "p3 p6": 3, "p4 p6": 7, "p4 p7": 5,
     "p5 p7": 2, "p6 p8": 8, "p6 p9": 4, "p7 p10": 12, "p8 p11": 3, "p9 p11": 6, "p9 p12": 2,
@@ -85,7 +88,7 @@ AHEAD = {
 # A little-endian capture of nanoseconds and of raw IP.
 HEAD = struct.pack("<IHHIIII", 0xA1B23C4D, 2, 4, 0, 0, 262144, 101)
 
-# The domain: the reported blocks, flows as name to number and prefixes, nodes as name to span, links as texts like "p1 p3".
+# The domain: the reported blocks, flows as name to number and prefixes, nodes as name to span, links as texts ("p1 p3").
 Domain = namedtuple("Domain", "blocks flows nodes links")
 
 # A cluster, or the whole network: its name in the table, its links, and the nodes where packets enter and leave it.
@@ -132,8 +135,8 @@ def hops(way):
 
 
 def journey(way, block, entered, lost, spread):
-    """The nodes that a packet passes, each with its reading there. It enters at this reading and is lost on this link, if
-    any. The spread is what makes one packet a little slower than another."""
+    """The nodes that a packet passes, each with its reading there. It enters at this reading and is lost on this link,
+    if any. The spread is what makes one packet a little slower than another."""
     first, *_ = way.split()
     marked = time = entered - 1000 * AHEAD[first]
     yield first, entered
@@ -149,10 +152,11 @@ def journey(way, block, entered, lost, spread):
 
 
 def packets(domain):
-    """All packets: those of the blocks in which the captures have a reading, and of the block before, of which some arrive
-    after the captures began."""
+    """All packets: those of the blocks in which the captures have a reading, and of the block before, of which some
+    arrive after the captures began."""
     lost = {(flow, block, number): link for flow, block, number, link in DROPS}
-    begin, end = min(span.start for span in domain.nodes.values()), max(span.stop for span in domain.nodes.values())
+    begin = min(span.start for span in domain.nodes.values())
+    end = max(span.stop for span in domain.nodes.values())
     assert all(2 * 1000 * abs(ahead) <= SKEW for ahead in AHEAD.values())
     newest = {}
     for block in range(begin // BLOCK - 1, (end - 1) // BLOCK + 1):
@@ -234,8 +238,9 @@ def drop_sums(domain):
 
 def main(words):
     twelve = os.path.join(os.path.dirname(os.path.realpath(__file__)), "twelve")
-    with open(os.path.join(twelve, "twelve.check")) as checked, open(os.path.join(twelve, "twelve.clusters")) as clustered:
+    with open(os.path.join(twelve, "twelve.check")) as checked:
         domain = read_domain(checked)
+    with open(os.path.join(twelve, "twelve.clusters")) as clustered:
         scopes = list(read_scopes(clustered, domain))
     if words == ["--drops"]:
         print(*drop_rows(domain, scopes), sep="\n")

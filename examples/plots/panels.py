@@ -46,7 +46,8 @@ def mean_delays(cells):
 
 
 def levels(delays):
-    """Lines of gnuplot data: a level as wide as its block, joined to that of the next block, with a gap where one is missing."""
+    """Lines of gnuplot data: a level as wide as its block, joined to that of the next block, and a gap where that is
+    missing."""
     for block in sorted(delays):
         if block - 1 not in delays:
             yield ""
@@ -67,7 +68,8 @@ def step(span, most, powers=range(20)):
 
 
 def heights(values, kind):
-    """The words for gnuplot that set the heights of a panel: from 0, or the least value, to a little above the greatest."""
+    """The words for gnuplot that set the heights of a panel: from 0, or the least value, to a little above the
+    greatest."""
     least, greatest = min([0, *values]), max([0, *values])
     if kind == "loss" or least == greatest:
         greatest = max(1, greatest)
@@ -93,7 +95,8 @@ def picture(table, kind):
         colour, dash, width = COLOURS[flow % len(COLOURS)], flow // len(COLOURS) + 1, max(1.5, 5 - 1.5 * flow)
         yield f"set linetype {flow + 1} linecolor rgb '{colour}' dashtype {dash} linewidth {width}"
     yield f"set label 2 '{UNITS[kind]}' at screen 0.02,{(BELOW + height - ABOVE) / 2 / height} center rotate by 90"
-    yield f"set samples 2; set style fill solid noborder; set key at screen 0.5,screen {(height - 36) / height} center top horizontal"
+    yield f"set key at screen 0.5,screen {(height - 36) / height} center top horizontal"
+    yield "set samples 2; set style fill solid noborder"
     for number, (scope, of) in enumerate(table.items()):
         top = height - ABOVE - number * (PANEL + GAP)
         yield f"set tmargin at screen {top / height}; set bmargin at screen {(top - PANEL) / height}"

@@ -1,8 +1,8 @@
 #!/usr/bin/env bash
 # plot.sh TABLE FOLDER: draws TABLE, a loss table that `audit` printed, into FOLDER, which is made where it is missing.
-# loss.svg has the packets that were lost in each block, and delay.svg the mean delay of a packet. Needs gnuplot 5.4 or newer
-# (Debian: gnuplot-nox) and python3. Status 0 where both were drawn, 2 where the words are wrong, 3 where TABLE is no loss
-# table or a picture can't be drawn or written, 4 where gnuplot isn't installed.
+# loss.svg has the packets that were lost in each block, and delay.svg the mean delay of a packet. It needs python3, and
+# gnuplot 5.4 or newer (Debian package gnuplot-nox). Status 0: both were drawn. 2: the words are wrong. 3: TABLE is no
+# loss table, or a picture can't be drawn or written. 4: gnuplot isn't installed.
 set -u
 
 here=$(dirname -- "$(readlink -f -- "${BASH_SOURCE[0]}")")
