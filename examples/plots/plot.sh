@@ -17,7 +17,7 @@ fi
 mkdir -p -- "$2" || exit 3
 for kind in loss delay; do
     text=$(python3 "$here/panels.py" "$1" "$kind") || exit 3
-    picture=$(gnuplot <<<"$text") || exit 3
+    picture=$(gnuplot -d <<<"$text") || exit 3
     # Groups in which nothing is drawn make a third of what gnuplot writes.
     sed -z 's/<g [^>]*>\n<\/g>\n//g' <<<"$picture" >"$2/$kind.svg" || exit 3
 done
