@@ -106,6 +106,27 @@ fn takes(
     }
 }
 
+// Takes the reports of the nodes, in their order; false where that can't be.
+fn takes_all(
+    alloc: Global,
+    domain: &Domain,
+    control: &mut Control,
+    reports: &[&[Row]],
+) -> Result<bool, AllocError>
+    requires { IsControlOf domain.now control.old }
+    ensures { OnOk result (IsControlOf domain.now control.new) }
+{
+    if reports.len() > domain.nodes().len() {
+        return Ok(false);
+    }
+    for node in 0..reports.len() {
+        if !takes(alloc, domain, control, node as u32, reports[node])? {
+            return Ok(false);
+        }
+    }
+    Ok(true)
+}
+
 // Writes the table of the reports of the nodes, in their order; false where that can't be, and after a fault.
 fn prints(
     alloc: Global,
@@ -120,10 +141,8 @@ fn prints(
         return Ok(false);
     };
     let mut control = Control::new(alloc, &domain)?;
-    for node in 0..reports.len() {
-        if !takes(alloc, &domain, &mut control, node as u32, reports[node])? {
-            return Ok(false);
-        }
+    if !takes_all(alloc, &domain, &mut control, reports)? {
+        return Ok(false);
     }
     let Ok(closed) = control.finish() else {
         return Ok(false);
