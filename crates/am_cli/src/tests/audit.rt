@@ -29,7 +29,12 @@ network,voice,2,0,0,0,0,0,0,0
 ";
 
 // Runs `audit` over the domain of two points and their captures.
-fn run_audit(alloc: Global, up: &[u8], down: &[u8], faults: Faults) -> Result<Ran, AllocError> {
+fn run_audit<'a>(
+    alloc: Global,
+    up: &'a [u8],
+    down: &'a [u8],
+    faults: Faults,
+) -> Result<Ran, AllocError> {
     let files = files(
         alloc,
         &[
