@@ -1,5 +1,5 @@
 -- The captures of a domain's nodes, taken one after another, and the loss table of what was taken.
-use Rattle.std.proofs.Common.{arith, refl, sym, ap, subst, ◌∙◌, ◌≡◌, ℕ, ◌+◌, ◌-◌, ◌<◌, suc, List, [], ◌∷◌, ◌++◌, length, get_or, drop, map, Option, Some, None, inl, inr, add-one, below_more, append_assoc}
+use Rattle.std.proofs.Common.{arith, refl, sym, ap, subst, ◌∙◌, ◌≡◌, ℕ, ◌+◌, ◌-◌, ◌<◌, suc, List, [], ◌∷◌, ◌++◌, length, get_or, drop, map, Option, Some, None, inr, add-one, below_more, append_assoc}
 use Rattle.std.specs.Prelude.{Ok, replicate, slice_set}
 use Rattle.std.proofs.Math.Seq.{drop-cons, drop-length, set-append_seam, get_or-append_seam}
 use Rattle.std.proofs.lemmas.List.{get_or_append_left, get_or-map, append-nil, length-append, length-map, map-append}
@@ -15,10 +15,9 @@ use Rattle.am_meter.specs.Metering.{AreMetered}
 use Rattle.am_meter.specs.MeteredFiles.{capture_of, no_node}
 use Rattle.am_meter.specs.declared.stream.Marked.{Marked}
 use Rattle.am_cli.specs.Answers.{Answer}
-use Rattle.am_cli.specs.Answers.Answer.{NoMemory}
 use Rattle.am_cli.specs.Answers.Ending.{Done}
 use Rattle.am_cli.specs.Chains.Chain.{Writes}
-use Rattle.am_cli.specs.Chains.{Inputs, Output, Judged, Follows, StopsHere, Performs}
+use Rattle.am_cli.specs.Chains.{Inputs, Output, Judged, Follows, Performs}
 use Rattle.am_cli.specs.Inputs.{JudgesCapture}
 use Rattle.am_cli.specs.Auditing.{TakesFirst, ReportsIgnoreWorkers, TablesIgnoreWorkers, with_workers}
 use Rattle.am_cli.specs.commands.Audit.{HaveCells, IsLossTable, audit_from}
@@ -26,19 +25,6 @@ use Rattle.am_cli.specs.commands.Audit.{HaveCells, IsLossTable, audit_from}
 -- the nodes from this one on are it and those after it
 nodes-from : (d : DomainValue) (i : ℕ) → i < length d.nodes → drop i d.nodes ≡ get_or d.nodes i no_node ∷ drop (i + 1) d.nodes
 nodes-from d i h = drop-cons d.nodes i no_node h ∙ ap (λ k. get_or d.nodes i no_node ∷ drop k d.nodes) (sym (add-one i))
-
--- a node whose capture stops the command
-pub node-stops :
-    (d : DomainValue) (i : ℕ) (taken : List (List Marked)) (before after : Inputs) (o : Output) (answer : Answer) → i < length d.nodes
-    → StopsHere before after (capture_of d i) (JudgesCapture d.kind) answer
-    → Performs before after o o (audit_from d (drop i d.nodes) taken) answer
-node-stops d i taken before after o answer h stops =
-    subst (λ ns. Performs before after o o (audit_from d ns taken) answer) (sym (nodes-from d i h)) (inl (stops, refl))
-
--- where memory runs out at a node, nothing was printed
-pub memory-among :
-    (d : DomainValue) (i : ℕ) (before after : Inputs) (o : Output) → i < length d.nodes → Performs before after o o (audit_from d d.nodes []) NoMemory
-memory-among d i before after o h = node-stops d 0 [] before after o NoMemory (omega (arith, h)) tt
 
 -- a node whose capture is taken
 node-taken :
