@@ -1,17 +1,35 @@
 -- Bytes say one domain alone or are refused in one way alone, so what is answered is the only answer.
-use Rattle.std.proofs.Common.{◌≡◌, ◌⊎◌, List, ℕ, Option, Result, Ok, Err, IfOk, IfErr, subst, sym, ap, ◌∙◌, refl, inl, inr}
+use Rattle.std.proofs.Common.{◌≡◌, ◌⊎◌, ◌-◌, ◌*◌, ◌<◌, ◌≤◌, List, length, ℕ, Option, Result, Ok, Err, IfOk, IfErr, subst, sym, ap, ◌∙◌, refl, inl, inr}
 use Rattle.std.proofs.lemmas.Option.{same_Some}
 use Rattle.toml.specs.Data.{Members}
+use Rattle.am_domain.specs.Values.{FlowValue}
 use Rattle.am_domain.specs.Fields.{FieldsValue, Says, IsBadField}
 use Rattle.am_domain.specs.Rules.{IsFirstBroken}
-use Rattle.am_domain.specs.Domains.{DomainValue, IsMadeOf, IsDocument, IsNoDocument, IsBroken, IsDomainOf, IsDomainRefusal, TellsRefusal, IsAnswer}
+use Rattle.am_domain.specs.Domains.{DomainValue, IsMadeOf, IsLawful, IsDocument, IsNoDocument, IsBroken, IsDomainOf, IsDomainRefusal, TellsRefusal, IsAnswer}
 use Rattle.am_domain.specs.declared.error.Part.{Part}
 use Rattle.am_domain.specs.declared.error.Key.{Key}
 use Rattle.am_domain.specs.declared.error.DomainError.{DomainError}
 use Rattle.am_domain.specs.declared.error.DomainError.TheVariants.{NotToml, BadField, Memory}
+use Rattle.am_domain.proofs.DomainLemmas.{lawful}
 use Rattle.am_domain.proofs.FieldAlone.{field_says, field_alone}
 use Rattle.am_domain.proofs.RuleAlone.{broken_alone, made_not, made_alone}
 use Rattle.am_domain.proofs.SaysAlone.{OnePrefix, says_same}
+
+-- the domain that a table says is lawful: the reported blocks of its rules are its own, since the file lays out one way
+made_lawful : (ms : Members) (f : FieldsValue) (d : DomainValue) → Says ms f → IsMadeOf f d → IsLawful d
+made_lawful ms f d says made =
+    let blocks = made.kept.1.1.1.1.1.1.1.1.1.1.1.0 in
+    let cells = made.kept.1.1.1.1.1.1.1.1.1.1.1.1.0 in
+    let some : d.first < d.end =
+    let e : DomainValue = record { times = d.times; kind = d.kind; workers = d.workers; flows = d.flows; nodes = d.nodes; links = blocks.0; first = blocks.1; end = blocks.2 } in
+    let also : IsMadeOf f e = record { times = made.times; kind = made.kind; workers = made.workers; flows = made.flows; nodes = made.nodes; laid_out = blocks.3; kept = made.kept } in
+    subst (λ (x : DomainValue). x.first < x.end) (made_alone f e d also made) blocks.4 in
+    let few : length d.flows * (d.end - d.first) ≤ 32768 =
+    let e : DomainValue = record { times = d.times; kind = d.kind; workers = d.workers; flows = d.flows; nodes = d.nodes; links = cells.0; first = cells.1; end = cells.2 } in
+    let also : IsMadeOf f e = record { times = made.times; kind = made.kind; workers = made.workers; flows = made.flows; nodes = made.nodes; laid_out = cells.3; kept = made.kept } in
+    let same = made_alone f e d also made in
+    subst (λ (fs : List FlowValue). length fs * (d.end - d.first) ≤ 32768) (sym made.flows) (subst (λ (x : DomainValue). length f.flows * (x.end - x.first) ≤ 32768) same cells.4) in
+    lawful ms f d says made some few
 
 -- the document of the bytes is one alone
 doc_same : (bytes : List ℕ) (a b : Members) → IsDocument bytes a → IsDocument bytes b → a ≡ b
@@ -52,6 +70,9 @@ module _ (one : OnePrefix) (bytes : List ℕ) where
   one_domain a b p q =
       let same = fields_same p.members q.members p.says.fields q.says.fields p.document q.document p.says.says q.says.says in
       made_alone q.says.fields a b (subst (λ (f : FieldsValue). IsMadeOf f a) same p.says.made) q.says.made
+
+  pub said_lawful : (d : DomainValue) → IsDomainOf bytes d → IsLawful d
+  said_lawful d p = made_lawful p.members p.says.fields d p.says.says p.says.made
 
   field_and_says : (e : DomainError) → HasBadField bytes e → (ms : Members) (f : FieldsValue) → IsDocument bytes ms → Says ms f → ⊥
   field_and_says e h ms f d says =
