@@ -12,3 +12,4 @@ pub mod RefusedAlone
 pub mod ReportAlone
 pub mod ReadBack
 pub mod RowLemmas
+pub mod SizeLemmas

@@ -26,11 +26,11 @@ use Rattle.am_report.proofs.ReadLemmas.{same-parts}
 use Rattle.am_report.proofs.TextLemmas.{flat-more, range-suc}
 
 -- the row of this number
-abbrev row_of : DomainValue → ℕ → CellTable → ℕ → RowValue
+abbrev pub row_of : DomainValue → ℕ → CellTable → ℕ → RowValue
 row_of d node t k = row_at d node (k % length d.flows) (d.first + k / length d.flows) (cell_in t.cells k)
 
 -- so many rows from the first on
-abbrev rows_of : DomainValue → ℕ → CellTable → ℕ → List RowValue
+abbrev pub rows_of : DomainValue → ℕ → CellTable → ℕ → List RowValue
 rows_of d node t count = map (row_of d node t) (range_with_len 0 count)
 
 range-append : (a m n : ℕ) → range_with_len a (m + n) ≡ range_with_len a m ++ range_with_len (a + m) n
@@ -94,7 +94,7 @@ first-node d node t zero j = tt
 first-node d node t (suc k) j = refl
 
 -- the reported blocks have 64 bits
-block-fits : (d : DomainValue) (node block : ℕ) → IsLawful d → node < length d.nodes → d.first ≤ block → block < d.end → block < 2 ^ 64
+pub block-fits : (d : DomainValue) (node block : ℕ) → IsLawful d → node < length d.nodes → d.first ≤ block → block < d.end → block < 2 ^ 64
 block-fits d node block lawful there from until =
     let window = lawful.windows block (from, until) node no_node there in
     let most = lawful.until_readings node no_node there in
@@ -102,17 +102,17 @@ block-fits d node block lawful there from until =
     omega (arith, window.ends, most, some)
 
 -- a written report: its domain, its node and its cells
-record Written (d : DomainValue) (node : ℕ) (t : CellTable) : Type 0 where
-  lawful : IsLawful d
-  there : node < length d.nodes
-  table : IsCellTable t
-  shape : HasShape t (length d.flows) d.first d.end
+pub record Written (d : DomainValue) (node : ℕ) (t : CellTable) : Type 0 where
+  pub lawful : IsLawful d
+  pub there : node < length d.nodes
+  pub table : IsCellTable t
+  pub shape : HasShape t (length d.flows) d.first d.end
 
 -- how many rows there are
-abbrev all_rows : DomainValue → ℕ
+abbrev pub all_rows : DomainValue → ℕ
 all_rows d = (d.end - d.first) * length d.flows
 
-many-cells : (d : DomainValue) (node : ℕ) (t : CellTable) → Written d node t → length t.cells ≡ all_rows d
+pub many-cells : (d : DomainValue) (node : ℕ) (t : CellTable) → Written d node t → length t.cells ≡ all_rows d
 many-cells d node t w =
     (rw (w.shape.flows_are, w.shape.first_is, w.shape.end_is) at w.table.whole) ∙ mul_comm (length d.flows) (d.end - d.first)
 
@@ -123,7 +123,7 @@ row-number d node lawful there = record {
   here = λ x. ap (λ (n : NodeValue). n.name) (get_or_default d.nodes node x no_node there);
 }
 
-wanted-here : (d : DomainValue) (k : ℕ) → IsLawful d → k < all_rows d → IsWanted d k (k % length d.flows) (d.first + k / length d.flows)
+pub wanted-here : (d : DomainValue) (k : ℕ) → IsLawful d → k < all_rows d → IsWanted d k (k % length d.flows) (d.first + k / length d.flows)
 wanted-here d k lawful low =
     let m = length d.flows in
     let some : 0 < m = omega (arith, lawful.some_flow) in
@@ -197,7 +197,7 @@ text-read rows =
     ((column_names, state.StartRecord, text), read-write-many _ _ _ text, refl, rows-read rows) in
     (state.StartRecord, [], rw (no-mark text) read, at-end)
 
-all-read : (d : DomainValue) (node : ℕ) (t : CellTable) → Written d node t
+pub all-read : (d : DomainValue) (node : ℕ) (t : CellTable) → Written d node t
     → report_rows d node t ≡ rows_of d node t (all_rows d)
 all-read d node t w = rows-numbered d node t (d.end - d.first) w.shape
 
