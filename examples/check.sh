@@ -196,7 +196,71 @@ expect_file 'audit, the flow among other traffic' 0 "$here/two/two.audit" '' aud
 for workers in 2 64; do
     sed "s/^place = .*/&\nworkers = $workers/" "$here/two/two.toml" >workers.toml
     expect_file "audit, $workers workers" 0 "$here/two/two.audit" '' audit workers.toml
+    expect_file "meter, $workers workers" 0 "$here/two/b.csv" '' meter workers.toml b
 done
+# The records of two/ in every form give the two reports.
+for side in u:a v:b; do
+    for file in "$here/forms/${side%:*}"-*.pcap; do
+        cp -- "$file" "${side%:*}.pcap"
+        expect_file "meter, ${file##*/}" 0 "$here/two/${side#*:}.csv" '' meter two.toml "${side#*:}"
+    done
+done
+# Each bad capture is refused by `meter`, and by `audit` in the place of either node's.
+for file in "$here"/bad/*.pcap; do
+    cp -- "$file" .
+    name=${file##*/}
+    line=$(<"${file%.pcap}.line")
+    for side in u:a v:b; do
+        sed "s/${side%:*}\.pcap/$name/" "$here/two/two.toml" >bad.toml
+        expect "meter, bad/$name at ${side#*:}" 3 '' "$line" meter bad.toml "${side#*:}"
+        expect "audit, bad/$name at ${side#*:}" 3 '' "$line" audit bad.toml
+    done
+    rm -- "$name"
+done
+# Captures of a few packets of 48 bytes: for each its second, how many of its bytes were captured, and its mark.
+# write_capture NAME [SECOND CAPTURED MARK]..
+write_capture() {
+    python3 - "$@" <<'END'
+import struct, sys
+name, words = sys.argv[1], sys.argv[2:]
+packet = bytes.fromhex("6000000000080040 20010db8000100000000000000000001 20010db8000200000000000000000001 3b001204")
+with open(name, "wb") as out:
+    out.write(struct.pack("<IHHIIII", 0xA1B2C3D4, 2, 4, 0, 0, 262144, 101))
+    for second, captured, mark in zip(*[iter(words)] * 3):
+        out.write(struct.pack("<IIII", int(second), 0, int(captured), 48))
+        out.write((packet + bytes.fromhex(mark))[: int(captured)])
+END
+}
+columns=version,node,flow,block,count,sum,dcount,dsum
+write_capture u.pcap 11 48 12345800 4 48 12345000
+expect 'meter, colour 1 before colour 0' 0 $columns$'\n1,a,voice,0,1,4000000000,0,0\n1,a,voice,1,1,6000000000,0,0\n1,a,voice,2,0,0,0,0' '' meter two.toml a
+write_capture u.pcap 4 48 12345800 4 48 12345000 35 48 12345400
+expect 'meter, packets that belong to no reported block' 0 $columns$'\n1,a,voice,0,1,4000000000,0,0\n1,a,voice,1,0,0,0,0\n1,a,voice,2,0,0,0,0' '' meter two.toml a
+write_capture u.pcap 1 44 12345400
+expect 'meter, 44 bytes of 48' 3 '' 'altmark: u.pcap: headers of record 1 are cut' meter two.toml a
+expect 'audit, 44 bytes of 48' 3 '' 'altmark: u.pcap: headers of record 1 are cut' audit two.toml
+head -c 162 "$here/two/u.pcap" >u.pcap
+expect 'meter, a capture of 162 bytes' 3 '' 'altmark: u.pcap: file ends in record 3' meter two.toml a
+expect 'audit, a capture of 162 bytes' 3 '' 'altmark: u.pcap: file ends in record 3' audit two.toml
+# A packet that enters once and leaves twice: a loss below 0, and no delay.
+write_capture u.pcap 1 48 12345000
+write_capture v.pcap 1 48 12345000 1 48 12345000
+twice=$(sed 's/^\(.*,voice,0\),.*/\1,1,2,-1,-,0,0,0/; s/^\(.*,voice,[12]\),.*/\1,0,0,0,0,0,0,0/' "$here/two/two.audit")
+expect 'audit, a packet that leaves twice' 0 "$twice" '' audit two.toml
+# As many cells as there may be: all are in the report, those without a packet too.
+sed 's/^until_ns = [0-9]*/until_ns = 327685000000000/' "$here/two/two.toml" >cells.toml
+for node in a b; do
+    { cat -- "$here/two/$node.csv" && seq -f "1,$node,voice,%.0f,0,0,0,0" 3 32767; } >"cells-$node.csv"
+done
+{
+    head -n 1 "$here/two/two.audit"
+    for scope in 0 network; do
+        grep "^$scope,voice" "$here/two/two.audit" && seq -f "$scope,voice,%.0f,0,0,0,0,0,0,0" 3 32767
+    done
+} >cells.audit
+cp "${two[@]}" .
+expect_file 'meter, as many cells as there may be' 0 cells-a.csv '' meter cells.toml a
+expect_file 'audit, as many cells as there may be' 0 cells.audit '' audit cells.toml
 # Several flows, more links than one, and a point that both passes on and delivers.
 cd -- "$here/mark" || exit 1
 expect_file 'audit, two flows' 0 net.audit '' audit net.toml
@@ -208,6 +272,8 @@ expect 'clusters, the same point as two nodes' 0 $'cluster 0 links 0 1 starts a 
 # Twelve points. The table is what the packets' ways give. Its rows with a loss, and the sums over the network, are also worked
 # out from the list of drops and the clusters alone.
 cd -- "$here/twelve" || exit 1
+sed 's/^workers = [0-9]*/workers = 64/' twelve.toml >"$scratch/workers.toml"
+expect_file 'audit, twelve points, 64 workers' 0 twelve.audit '' audit "$scratch/workers.toml"
 expect_file 'audit, twelve points' 0 twelve.audit '' audit twelve.toml
 awk -F, 'NR > 1 && $6 != 0 { print $1 "," $2 "," $3 "," $6 }' "$scratch/stdout" >"$scratch/losses"
 if python3 "$here/traffic.py" --drops | cmp -s - "$scratch/losses" && [[ -s $scratch/losses ]]; then
@@ -546,6 +612,13 @@ if [[ -c /dev/full && -w /dev/full ]]; then
     to_full 'meter to a full device, an unknown node' 3 'altmark: unknown node' meter two.toml z
     to_full 'audit to a full device' 6 'altmark: write fault' audit two.toml
     to_full 'audit to a full device, a missing domain' 4 'altmark: no.toml: missing' audit no.toml
+    to_full 'audit to a full device, as many cells as there may be' 6 'altmark: write fault' audit cells.toml
+    mv v.pcap v.kept
+    to_full 'meter to a full device, a missing capture' 4 'altmark: v.pcap: missing' meter two.toml b
+    to_full 'audit to a full device, a missing capture' 4 'altmark: v.pcap: missing' audit two.toml
+    head -c 162 v.kept >v.pcap
+    to_full 'audit to a full device, a refused capture' 3 'altmark: v.pcap: file ends in record 3' audit two.toml
+    mv v.kept v.pcap
     cd -- "$scratch" || exit 1
     "$altmark" </dev/null >stdout 2>/dev/full
     got=$?
