@@ -1,7 +1,7 @@
 #!/usr/bin/env bash
-# cluster.sh FOLDER COMMAND WORD..: runs a command beside a Slurm of this one machine, which is started for it and ended after
-# it. FOLDER, an absolute name, gets all that Slurm writes. The status is the command's, or 1 where Slurm doesn't start. It
-# needs slurmctld, slurmd and munged (Debian package slurm-wlm), and listens on the loopback address alone.
+# cluster.sh FOLDER COMMAND WORD..: runs a command beside a Slurm of this one machine, which is started for it and ended
+# after it. FOLDER, an absolute name, gets all that Slurm writes. The status is the command's, or 1 where Slurm doesn't
+# start. It needs slurmctld, slurmd and munged (Debian package slurm-wlm), and listens on the loopback address alone.
 set -u
 
 folder=$1

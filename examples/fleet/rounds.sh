@@ -1,7 +1,8 @@
 #!/usr/bin/env bash
-# rounds.sh ENGINE: the loss table of twelve points, each metered by a job of ENGINE, `parallel` or `slurm`. It runs in an
-# empty folder, in which a folder stands for the machine at each point. One capture isn't there when the jobs first run.
-# Status 0: the table is the one that `audit` prints of the same captures. 1: another, or a job that failed for good.
+# rounds.sh ENGINE: the loss table of twelve points, each metered by a job of ENGINE, `parallel` or `slurm`. It runs in
+# an empty folder, in which a folder stands for the machine at each point. One capture isn't there when the jobs first
+# run. Status 0: the table is the one that `audit` prints of the same captures. 1: another, or a job that failed for
+# good.
 set -u
 
 engine=$1
@@ -10,8 +11,8 @@ top=$here/../..
 twelve=$here/../twelve
 late=p7
 
-# jobs NODE..: runs the job of each of these points, and returns when all have ended. Whether one failed is seen from its
-# report, which then is missing.
+# jobs NODE..: runs the job of each of these points, and returns when all have ended. Whether one failed is seen from
+# its report, which then is missing.
 jobs() {
     case $engine in
         parallel)
@@ -22,7 +23,8 @@ jobs() {
             local places
             places=$(printf '%s\n' "$@" | grep -nxFf - points | cut -d: -f1 | paste -sd,)
             sbatch --array="$places" --wait --output="jobs-$round-%a.log" --wrap \
-                'node=$(sed -n "${SLURM_ARRAY_TASK_ID}p" points) && cd "$node" && ../point.sh ../altmark twelve.toml "$node"'
+                'node=$(sed -n "${SLURM_ARRAY_TASK_ID}p" points) && cd "$node" &&
+                exec ../point.sh ../altmark twelve.toml "$node"'
             ;;
     esac >"jobs-$round.out" 2>&1
 }

@@ -1,9 +1,9 @@
 #!/usr/bin/env bash
-# run.sh FOLDER [ENGINE..]: the loss table of twelve points, each metered by a job of its own. ENGINE is `parallel`, for GNU
-# parallel, or `slurm`, for an array of Slurm jobs; without one both are tried, one after the other. FOLDER gets a folder for
-# each engine, in which a folder stands for the machine at each point. One capture isn't there when the jobs first run.
-# Status 0: each engine that is installed ended with the table that `audit` prints of the same captures; where one isn't
-# installed a line says so. 1: another table, or a job that failed for good. 2: the words are wrong.
+# run.sh FOLDER [ENGINE..]: the loss table of twelve points, each metered by a job of its own. ENGINE is `parallel`, for
+# GNU parallel, or `slurm`, for an array of Slurm jobs; without one both are tried, one after the other. FOLDER gets a
+# folder for each engine, in which a folder stands for the machine at each point. One capture isn't there when the jobs
+# first run. Status 0: each engine that is installed ended with the table that `audit` prints of the same captures;
+# where one isn't installed a line says so. 1: another table, or a job that failed for good. 2: the words are wrong.
 set -u
 
 here=$(dirname -- "$(readlink -f -- "${BASH_SOURCE[0]}")")
