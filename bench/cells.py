@@ -88,8 +88,8 @@ def net(program, tight, folder):
         figure(f"net, {name}", least[name], peak[name])
     table = least["audit"] - least["audit of one block"]
     print(f"net, audit less the captures, to cat of the table: {table / least['cat of the table']:.2f}")
-    tight_table = least["tight audit"] - least["tight audit of one block"]
-    print(f"net, audit less the captures, to tight C: {table / tight_table:.2f}")
+    printed = least["tight audit"] - least["tight audit of one block"]
+    print(f"net, audit less the captures, to C, which prints by fprintf: {table / printed:.2f}")
     shutil.rmtree(into)
     return well
 
