@@ -196,7 +196,71 @@ expect_file 'audit, the flow among other traffic' 0 "$here/two/two.audit" '' aud
 for workers in 2 64; do
     sed "s/^place = .*/&\nworkers = $workers/" "$here/two/two.toml" >workers.toml
     expect_file "audit, $workers workers" 0 "$here/two/two.audit" '' audit workers.toml
+    expect_file "meter, $workers workers" 0 "$here/two/b.csv" '' meter workers.toml b
 done
+# The records of two/ in every form give the two reports.
+for side in u:a v:b; do
+    for file in "$here/forms/${side%:*}"-*.pcap; do
+        cp -- "$file" "${side%:*}.pcap"
+        expect_file "meter, ${file##*/}" 0 "$here/two/${side#*:}.csv" '' meter two.toml "${side#*:}"
+    done
+done
+# Each bad capture is refused by `meter`, and by `audit` in the place of either node's.
+for file in "$here"/bad/*.pcap; do
+    cp -- "$file" .
+    name=${file##*/}
+    line=$(<"${file%.pcap}.line")
+    for side in u:a v:b; do
+        sed "s/${side%:*}\.pcap/$name/" "$here/two/two.toml" >bad.toml
+        expect "meter, bad/$name at ${side#*:}" 3 '' "$line" meter bad.toml "${side#*:}"
+        expect "audit, bad/$name at ${side#*:}" 3 '' "$line" audit bad.toml
+    done
+    rm -- "$name"
+done
+# Captures of a few packets of 48 bytes: for each its second, how many of its bytes were captured, and its mark.
+# write_capture NAME [SECOND CAPTURED MARK]..
+write_capture() {
+    python3 - "$@" <<'END'
+import struct, sys
+name, words = sys.argv[1], sys.argv[2:]
+packet = bytes.fromhex("6000000000080040 20010db8000100000000000000000001 20010db8000200000000000000000001 3b001204")
+with open(name, "wb") as out:
+    out.write(struct.pack("<IHHIIII", 0xA1B2C3D4, 2, 4, 0, 0, 262144, 101))
+    for second, captured, mark in zip(*[iter(words)] * 3):
+        out.write(struct.pack("<IIII", int(second), 0, int(captured), 48))
+        out.write((packet + bytes.fromhex(mark))[: int(captured)])
+END
+}
+columns=version,node,flow,block,count,sum,dcount,dsum
+write_capture u.pcap 11 48 12345800 4 48 12345000
+expect 'meter, colour 1 before colour 0' 0 $columns$'\n1,a,voice,0,1,4000000000,0,0\n1,a,voice,1,1,6000000000,0,0\n1,a,voice,2,0,0,0,0' '' meter two.toml a
+write_capture u.pcap 4 48 12345800 4 48 12345000 35 48 12345400
+expect 'meter, packets that belong to no reported block' 0 $columns$'\n1,a,voice,0,1,4000000000,0,0\n1,a,voice,1,0,0,0,0\n1,a,voice,2,0,0,0,0' '' meter two.toml a
+write_capture u.pcap 1 44 12345400
+expect 'meter, 44 bytes of 48' 3 '' 'altmark: u.pcap: headers of record 1 are cut' meter two.toml a
+expect 'audit, 44 bytes of 48' 3 '' 'altmark: u.pcap: headers of record 1 are cut' audit two.toml
+head -c 162 "$here/two/u.pcap" >u.pcap
+expect 'meter, a capture of 162 bytes' 3 '' 'altmark: u.pcap: file ends in record 3' meter two.toml a
+expect 'audit, a capture of 162 bytes' 3 '' 'altmark: u.pcap: file ends in record 3' audit two.toml
+# A packet that enters once and leaves twice: a loss below 0, and no delay.
+write_capture u.pcap 1 48 12345000
+write_capture v.pcap 1 48 12345000 1 48 12345000
+twice=$(sed 's/^\(.*,voice,0\),.*/\1,1,2,-1,-,0,0,0/; s/^\(.*,voice,[12]\),.*/\1,0,0,0,0,0,0,0/' "$here/two/two.audit")
+expect 'audit, a packet that leaves twice' 0 "$twice" '' audit two.toml
+# As many cells as there may be: all are in the report, those without a packet too.
+sed 's/^until_ns = [0-9]*/until_ns = 327685000000000/' "$here/two/two.toml" >cells.toml
+for node in a b; do
+    { cat -- "$here/two/$node.csv" && seq -f "1,$node,voice,%.0f,0,0,0,0" 3 32767; } >"cells-$node.csv"
+done
+{
+    head -n 1 "$here/two/two.audit"
+    for scope in 0 network; do
+        grep "^$scope,voice" "$here/two/two.audit" && seq -f "$scope,voice,%.0f,0,0,0,0,0,0,0" 3 32767
+    done
+} >cells.audit
+cp "${two[@]}" .
+expect_file 'meter, as many cells as there may be' 0 cells-a.csv '' meter cells.toml a
+expect_file 'audit, as many cells as there may be' 0 cells.audit '' audit cells.toml
 # Several flows, more links than one, and a point that both passes on and delivers.
 cd -- "$here/mark" || exit 1
 expect_file 'audit, two flows' 0 net.audit '' audit net.toml
@@ -208,6 +272,8 @@ expect 'clusters, the same point as two nodes' 0 $'cluster 0 links 0 1 starts a 
 # Twelve points. The table is what the packets' ways give. Its rows with a loss, and the sums over the network, are also worked
 # out from the list of drops and the clusters alone.
 cd -- "$here/twelve" || exit 1
+sed 's/^workers = [0-9]*/workers = 64/' twelve.toml >"$scratch/workers.toml"
+expect_file 'audit, twelve points, 64 workers' 0 twelve.audit '' audit "$scratch/workers.toml"
 expect_file 'audit, twelve points' 0 twelve.audit '' audit twelve.toml
 awk -F, 'NR > 1 && $6 != 0 { print $1 "," $2 "," $3 "," $6 }' "$scratch/stdout" >"$scratch/losses"
 if python3 "$here/traffic.py" --drops | cmp -s - "$scratch/losses" && [[ -s $scratch/losses ]]; then
@@ -220,6 +286,168 @@ if python3 "$here/traffic.py" --sums | LC_ALL=C sort | cmp -s - "$scratch/sums" 
     tally 'audit, the sums over the network of twelve points' yes
 else
     tally 'audit, the sums over the network of twelve points' no "$(tr '\n' '|' <"$scratch/sums")"
+fi
+cd -- "$here/two" || exit 1
+
+# The same table from the reports, in whatever order they come. They are taken one after another, each to its end, and nothing
+# is printed before the last was.
+expect_file 'loss, a and b' 0 two.audit '' loss two.toml a.csv b.csv
+expect_file 'loss, b and a' 0 two.audit '' loss two.toml b.csv a.csv
+cd -- "$top" || exit 1
+expect_file 'loss, from the top' 0 "$here/two/two.audit" '' loss examples/two/two.toml examples/two/b.csv examples/two/a.csv
+cd -- "$here/two" || exit 1
+expect 'loss, a alone' 3 '' 'altmark: no report of node b' loss two.toml a.csv
+expect 'loss, b alone' 3 '' 'altmark: no report of node a' loss two.toml b.csv
+expect 'loss, a twice' 3 '' 'altmark: a.csv: second report of node a' loss two.toml a.csv a.csv
+expect 'loss, a twice, with b between' 3 '' 'altmark: ./a.csv: second report of node a' loss two.toml a.csv b.csv ./a.csv
+expect 'loss, a twice before a report that is missing' 3 '' 'altmark: a.csv: second report of node a' loss two.toml a.csv a.csv no.csv
+expect 'loss, a missing report before a twice' 4 '' 'altmark: no.csv: missing' loss two.toml a.csv no.csv a.csv
+expect 'loss, a missing report' 4 '' 'altmark: no.csv: missing' loss two.toml a.csv no.csv
+expect 'loss, all reports and a missing one' 4 '' 'altmark: no.csv: missing' loss two.toml a.csv b.csv no.csv
+expect 'loss, a missing domain' 4 '' 'altmark: no.toml: missing' loss no.toml no.csv
+expect 'loss, a refused domain before a missing report' 3 '' 'altmark: domain: guard 5000000000 is not below half 5000000000' loss ../domains/guard-is-half.toml no.csv
+expect 'loss, a report as the domain' 3 '' 'altmark: domain: not TOML' loss a.csv a.csv b.csv
+expect 'loss, a domain as a report' 3 '' 'altmark: two.toml: bad header' loss two.toml a.csv two.toml
+expect 'loss, a capture as a report' 3 '' 'altmark: u.pcap: bad header' loss two.toml u.pcap b.csv
+expect 'loss, a loss table as a report' 3 '' 'altmark: two.audit: bad header' loss two.toml two.audit
+expect 'loss, a folder as the domain' 5 '' 'altmark: ../two: read fault' loss ../two a.csv b.csv
+expect 'loss, a folder as a report' 5 '' 'altmark: ../two: read fault' loss two.toml a.csv ../two
+expect 'loss, a file as a folder' 5 '' 'altmark: a.csv/b: read fault' loss two.toml a.csv a.csv/b
+expect 'loss, reports of another domain' 3 '' 'altmark: a.csv: row 2: unknown node' loss ../twelve/twelve.toml a.csv b.csv
+
+# Reports that were changed. report.csv is refused for what follows the colon; with no line there it is taken.
+cd -- "$scratch/audit" || exit 1
+cp "$here"/two/{a,b}.csv .
+python3 - <<'END' >reports.lines
+import re
+report = open("a.csv", "rb").read()
+head, first, second, third = report.splitlines(keepends=True)
+most = 2**40
+
+def named(name, line, data):
+    print(f"{name}:{line}")
+    open(f"{name}.report", "wb").write(data)
+
+def rows(name, line, *data):
+    named(name, line, head + b"".join(row.encode() + b"\n" for row in data))
+
+def changed(name, line, old, new, row=first):
+    assert row.count(old) == 1, (row, old)
+    named(name, line, report.replace(row, row.replace(old, new)))
+
+# the first row
+named("no bytes", "bad header", b"")
+named("a line feed", "bad header", b"\n")
+named("without the first row", "bad header", first + second + third)
+named("columns exchanged", "bad header", report.replace(b"version,node", b"node,version"))
+named("a column less", "bad header", report.replace(b",dsum", b""))
+named("a column more", "bad header", report.replace(b"dsum", b"dsum,"))
+named("semicolons", "bad header", report.replace(b",", b";"))
+named("a column in capitals", "bad header", report.replace(b"version", b"Version"))
+named("a byte order mark alone", "bad header", b"\xef\xbb\xbf")
+# a row
+changed("a count of 01", "bad row 2", b",2,", b",01,")
+changed("a count of +2", "bad row 2", b",2,", b",+2,")
+changed("a count of a space and 2", "bad row 2", b",2,", b", 2,")
+changed("a count of nothing", "bad row 2", b",2,", b",,")
+changed("a count that is no number", "bad row 2", b",2,", b",two,")
+changed("a block of -0", "bad row 2", b"voice,0", b"voice,-0")
+changed("a block of 65 bits", "bad row 2", b"voice,0", b"voice,18446744073709551616")
+changed("a block of 64 bits", "row 2: out of order", b"voice,0", b"voice,18446744073709551615")
+changed("a sum of 129 bits", "bad row 2", b"3000000000", b"340282366920938463463374607431768211456")
+changed("version 2", "bad row 2", b"1,a", b"2,a")
+changed("version 01", "bad row 2", b"1,a", b"01,a")
+changed("seven fields", "bad row 2", b",1,1000000000", b",1")
+changed("nine fields", "bad row 2", b",1,1000000000", b",1,1000000000,")
+changed("a sum above count times 2^42", "bad row 2", b"3000000000", b"8796093022209")
+changed("a dcount above count", "bad row 2", b",1,1000000000", b",3,1000000000")
+changed("a dsum above sum", "bad row 2", b",1,1000000000", b",1,3000000001")
+changed("a dsum without dcount", "bad row 2", b",1,1000000000", b",0,1")
+changed("an unlawful cell of an unknown node", "bad row 3", b"1,a,voice,1,3", b"1,z,voice,1,03", second)
+rows("a count above 2^40", "bad row 2", f"1,a,voice,0,{most + 1},0,0,0")
+rows("counts of more than 2^40 together", "bad row 3", f"1,a,voice,0,{most},0,0,0", "1,a,voice,1,1,0,0,0")
+rows("counts of 2^40 together", "", f"1,a,voice,0,{most - 1},0,0,0", "1,a,voice,1,1,0,0,0", "1,a,voice,2,0,0,0,0")
+# names
+changed("an unknown node", "row 2: unknown node", b"1,a", b"1,z")
+changed("a node in capitals", "row 2: unknown node", b"1,a", b"1,A")
+changed("a node of no bytes", "row 2: unknown node", b"1,a", b"1,")
+changed("a node that isn't UTF-8", "row 2: unknown node", b"1,a", b"1,\xff")
+changed("another node", "row 3: other node", b"1,a", b"1,b", second)
+changed("another node of an unknown flow", "row 4: other node", b"1,a,voice", b"1,b,video", third)
+changed("an unknown flow", "row 2: unknown flow", b"voice", b"video")
+changed("an unknown flow out of order", "row 3: unknown flow", b"voice,1", b"video,2", second)
+# the order of the rows
+named("the last two rows exchanged", "row 3: out of order", head + first + third + second)
+named("a row twice", "row 3: out of order", head + first + first + second + third)
+named("the first row left out", "row 2: out of order", head + second + third)
+named("a row too many", "row 5: out of order", report + third)
+named("the names of the columns again", "bad row 5", report + head)
+named("without the last row", "short: flow voice block 2", head + first + second)
+named("without the last two rows", "short: flow voice block 1", head + first)
+named("without rows", "short: flow voice block 0", head)
+named("cut inside the last row", "bad row 4", report[:-18])
+named("a refusal before a short report", "bad row 2", head + first.replace(b",2,", b",02,"))
+# spelled otherwise, and taken
+named("CR LF", "", report.replace(b"\n", b"\r\n"))
+named("rows without bytes", "", b"\n\r\n" + report.replace(b"\n", b"\n\n\r\n"))
+named("no last line feed", "", report[:-1])
+named("quotes", "", re.sub(rb"[^,\n]+", lambda it: b'"' + it.group() + b'"', report))
+named("quotes round the names", "", report.replace(b"a,voice", b'"a","voice"').replace(b"version", b'"version"'))
+named("as many bytes as there may be", "", report + b"\n" * (16777216 - len(report)))
+named("a byte more", "too long", report + b"\n" * (16777217 - len(report)))
+named("a byte more, and no report", "too long", b"\n" * 16777217)
+# rows without bytes aren't counted, and a quoted line feed begins no row
+named("a fault after rows without bytes", "bad row 3", (head + first + second.replace(b",3,", b",03,")).replace(b"\n", b"\n\n"))
+named("a quoted line feed", "row 3: unknown node", head + first + second.replace(b"1,a", b'1,"a\n"'))
+END
+[[ -s reports.lines ]] || tally 'changed reports' no 'none was made'
+taken=$(sed 's/^\(.*,voice,0\),.*/\1,1099511627775,2,1099511627773,-,0,1,-/; s/^\(.*,voice,1\),.*/\1,1,2,-1,-,0,1,-/; s/^\(.*,voice,2\),.*/\1,0,1,-1,-,0,1,-/' "$here/two/two.audit")
+while IFS=: read -r name line; do
+    mv -- "$name.report" report.csv
+    if [[ $name == 'counts of 2^40 together' ]]; then
+        expect "loss, a report with $name" 0 "$taken" '' loss two.toml report.csv b.csv
+    elif [[ -z $line ]]; then
+        expect_file "loss, a report with $name" 0 "$here/two/two.audit" '' loss two.toml b.csv report.csv
+    else
+        expect "loss, a report with $name" 3 '' "altmark: report.csv: $line" loss two.toml report.csv b.csv
+        expect "loss, a second report with $name" 3 '' "altmark: report.csv: $line" loss two.toml b.csv report.csv no.csv
+    fi
+done <reports.lines
+# The domain by which a report was written says which rows it has.
+sed 's/^until_ns = [0-9]*/until_ns = 50000000000/' two.toml >longer.toml
+expect 'loss, a domain of another block' 3 '' 'altmark: a.csv: short: flow voice block 3' loss longer.toml a.csv b.csv
+sed 's/^from_ns = [0-9]*/from_ns = 5000000000/' two.toml >later.toml
+expect 'loss, a domain without the first block' 3 '' 'altmark: a.csv: row 2: out of order' loss later.toml a.csv b.csv
+sed 's/^until_ns = [0-9]*/until_ns = 30000000000/' two.toml >shorter.toml
+expect 'loss, a domain without the last block' 3 '' 'altmark: b.csv: row 4: out of order' loss shorter.toml b.csv a.csv
+# As many cells as there may be, read back.
+expect_file 'loss, as many cells as there may be' 0 cells.audit '' loss cells.toml cells-a.csv cells-b.csv
+head -n -1 cells-b.csv >report.csv
+expect 'loss, as many cells as there may be less one' 3 '' 'altmark: report.csv: short: flow voice block 32767' loss cells.toml cells-a.csv report.csv
+# Through pipes: no file is made of a report.
+expect_file 'loss, reports that come through pipes' 0 "$here/two/two.audit" '' loss two.toml \
+    <("$altmark" meter two.toml a </dev/null) <("$altmark" meter two.toml b </dev/null)
+# What `meter` prints of each node gives the table that `audit` prints, from the last node to the first.
+for name in mark/net split/whole split/split twelve/twelve; do
+    cd -- "$here/${name%/*}" || exit 1
+    reports=()
+    while IFS= read -r node; do
+        "$altmark" meter "${name#*/}.toml" "$node" </dev/null >"$scratch/audit/node-$node.csv" || tally "meter $name.toml $node" no
+        reports=("$scratch/audit/node-$node.csv" "${reports[@]}")
+    done < <("$altmark" check "${name#*/}.toml" </dev/null | awk '$1 == "node" { print $2 }')
+    expect_file "loss, the reports of $name.toml" 0 "${name#*/}.audit" '' loss "${name#*/}.toml" "${reports[@]}"
+done
+# The reports of twelve points as jobs of GNU parallel, one of which fails and is repeated.
+if [[ $(parallel --version 2>/dev/null) == 'GNU parallel'* ]]; then
+    "$here/fleet/run.sh" "$scratch/fleet" parallel </dev/null >"$scratch/stdout" 2>"$scratch/stderr"
+    got=$?
+    if [[ $got == 0 && ! -s $scratch/stderr ]] && cmp -s "$scratch/stdout" "$here/fleet/parallel.txt"; then
+        tally 'twelve points by GNU parallel' yes
+    else
+        tally 'twelve points by GNU parallel' no "status $got, '$(cat "$scratch/stdout" "$scratch/stderr" | tail -n 3 | head -c 300 | tr '\n' '|')'"
+    fi
+else
+    echo "skipped: twelve points as jobs: GNU parallel isn't installed"
 fi
 cd -- "$here/two" || exit 1
 
@@ -266,6 +494,18 @@ for words in audit 'audit two.toml x' 'Audit two.toml' 'audits two.toml' 'two.to
     read -ra split <<<"$words"
     refuses "'$words'" "${split[@]}"
 done
+for words in loss 'loss two.toml' 'Loss two.toml a.csv' 'losses two.toml a.csv' 'two.toml loss a.csv'; do
+    read -ra split <<<"$words"
+    refuses "'$words'" "${split[@]}"
+done
+refuses 'loss, an empty name of the domain' loss '' a.csv
+refuses 'loss, an empty name of a report' loss two.toml a.csv ''
+refuses 'loss, a report of 256 bytes' loss two.toml a.csv "a$long"
+refuses 'loss, a report with a line feed' loss two.toml $'a\n.csv' b.csv
+refuses 'loss, a report with U+001F' loss two.toml a.csv $'b\x1f.csv'
+refuses 'loss, a report with U+007F' loss two.toml a.csv $'b\x7f.csv'
+expect 'loss, a word that is no text' 2 '' '' loss two.toml a.csv $'b\xff.csv'
+expect 'loss, a name of 255 bytes' 4 '' "altmark: $long: missing" loss two.toml a.csv "$long"
 refuses 'audit, an empty name' audit ''
 refuses 'audit, a name of 256 bytes' audit "a$long"
 refuses 'audit, a name with a line feed' audit $'two\n.toml'
@@ -546,6 +786,18 @@ if [[ -c /dev/full && -w /dev/full ]]; then
     to_full 'meter to a full device, an unknown node' 3 'altmark: unknown node' meter two.toml z
     to_full 'audit to a full device' 6 'altmark: write fault' audit two.toml
     to_full 'audit to a full device, a missing domain' 4 'altmark: no.toml: missing' audit no.toml
+    to_full 'audit to a full device, as many cells as there may be' 6 'altmark: write fault' audit cells.toml
+    mv v.pcap v.kept
+    to_full 'loss to a full device' 6 'altmark: write fault' loss two.toml a.csv b.csv
+    to_full 'loss to a full device, as many cells as there may be' 6 'altmark: write fault' loss cells.toml cells-a.csv cells-b.csv
+    to_full 'loss to a full device, a alone' 3 'altmark: no report of node b' loss two.toml a.csv
+    to_full 'loss to a full device, a twice' 3 'altmark: a.csv: second report of node a' loss two.toml a.csv b.csv a.csv
+    to_full 'loss to a full device, a missing report' 4 'altmark: no.csv: missing' loss two.toml a.csv no.csv
+    to_full 'meter to a full device, a missing capture' 4 'altmark: v.pcap: missing' meter two.toml b
+    to_full 'audit to a full device, a missing capture' 4 'altmark: v.pcap: missing' audit two.toml
+    head -c 162 v.kept >v.pcap
+    to_full 'audit to a full device, a refused capture' 3 'altmark: v.pcap: file ends in record 3' audit two.toml
+    mv v.kept v.pcap
     cd -- "$scratch" || exit 1
     "$altmark" </dev/null >stdout 2>/dev/full
     got=$?
