@@ -9,6 +9,9 @@ altmark=$top/altmark
 scratch=$(mktemp -d) || exit 1
 trap 'rm -rf -- "$scratch"' EXIT
 
+# Scripts leave nothing beside themselves.
+export PYTHONDONTWRITEBYTECODE=1
+
 checks=0
 failed=0
 
