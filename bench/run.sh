@@ -28,4 +28,4 @@ if [[ $got != 2 ]]; then
     exit 1
 fi
 
-exec python3 "$here/measure.py" "$top/crates/am_cli/out/am_cli" "$out" "$top/examples/network.py" "$@"
+exec python3 "$here/measure.py" "$top/crates/am_cli/out/am_cli" "$out" "$top/examples/make/network.py" "$@"

@@ -9,6 +9,9 @@ altmark=$top/altmark
 scratch=$(mktemp -d) || exit 1
 trap 'rm -rf -- "$scratch"' EXIT
 
+# Scripts leave nothing beside themselves.
+export PYTHONDONTWRITEBYTECODE=1
+
 checks=0
 failed=0
 
@@ -69,9 +72,9 @@ if [[ $got != 2 ]]; then
     exit 1
 fi
 
-# The files are those that the script beside them writes, but for the domain files, and what `check`, `meter` and `audit`
+# The files are those that make/captures.py writes, but for the domain files, and what `check`, `meter` and `audit`
 # print of them.
-python3 "$here/make.py" "$scratch/made"
+python3 "$here/make/captures.py" "$scratch/made"
 (cd -- "$scratch/made" && find . -type f | LC_ALL=C sort) >"$scratch/made.list"
 (cd -- "$here" && find ./two ./chains ./forms ./mixed ./mark ./split ./bad -type f ! -name README.md ! -name '*.toml' ! -name '*.check' ! -name '*.csv' ! -name '*.audit' ! -name '*.sh' | LC_ALL=C sort) >"$scratch/kept.list"
 if cmp -s "$scratch/made.list" "$scratch/kept.list"; then tally 'names of the example files' yes; else tally 'names of the example files' no; fi
@@ -79,8 +82,8 @@ while IFS= read -r name; do
     if cmp -s -- "$scratch/made/$name" "$here/$name"; then tally "bytes of $name" yes; else tally "bytes of $name" no; fi
 done <"$scratch/made.list"
 
-# The captures of twelve/, and the loss table beside them, are those that traffic.py writes.
-python3 "$here/traffic.py" "$scratch/traffic"
+# The captures of twelve/, and the loss table beside them, are those that make/traffic.py writes.
+python3 "$here/make/traffic.py" "$scratch/traffic"
 (cd -- "$scratch/traffic" && find . -type f | LC_ALL=C sort) >"$scratch/made.list"
 (cd -- "$here/twelve" && find . -name '*.pcap' -o -name '*.audit' | LC_ALL=C sort) >"$scratch/kept.list"
 if cmp -s "$scratch/made.list" "$scratch/kept.list"; then tally 'names of the files of twelve/' yes; else tally 'names of the files of twelve/' no; fi
@@ -276,13 +279,13 @@ sed 's/^workers = [0-9]*/workers = 64/' twelve.toml >"$scratch/workers.toml"
 expect_file 'audit, twelve points, 64 workers' 0 twelve.audit '' audit "$scratch/workers.toml"
 expect_file 'audit, twelve points' 0 twelve.audit '' audit twelve.toml
 awk -F, 'NR > 1 && $6 != 0 { print $1 "," $2 "," $3 "," $6 }' "$scratch/stdout" >"$scratch/losses"
-if python3 "$here/traffic.py" --drops | cmp -s - "$scratch/losses" && [[ -s $scratch/losses ]]; then
+if python3 "$here/make/traffic.py" --drops | cmp -s - "$scratch/losses" && [[ -s $scratch/losses ]]; then
     tally 'audit, the known drops of twelve points' yes
 else
-    tally 'audit, the known drops of twelve points' no "$(python3 "$here/traffic.py" --drops | diff - "$scratch/losses" | head -c 200 | tr '\n' '|')"
+    tally 'audit, the known drops of twelve points' no "$(python3 "$here/make/traffic.py" --drops | diff - "$scratch/losses" | head -c 200 | tr '\n' '|')"
 fi
 awk -F, '$1 == "network" { i[$2] += $4; o[$2] += $5; l[$2] += $6 } END { for (f in i) print f "," i[f] "," o[f] "," l[f] }' "$scratch/stdout" | LC_ALL=C sort >"$scratch/sums"
-if python3 "$here/traffic.py" --sums | LC_ALL=C sort | cmp -s - "$scratch/sums" && [[ -s $scratch/sums ]]; then
+if python3 "$here/make/traffic.py" --sums | LC_ALL=C sort | cmp -s - "$scratch/sums" && [[ -s $scratch/sums ]]; then
     tally 'audit, the sums over the network of twelve points' yes
 else
     tally 'audit, the sums over the network of twelve points' no "$(tr '\n' '|' <"$scratch/sums")"
@@ -545,29 +548,32 @@ for file in *.pcap; do
     expect_file "show bad/$file" "$([[ -n $line ]] && echo 3 || echo 0)" "$scratch/printed" "$line" show "$file"
 done
 
-# What `check` prints of the two domains, and of each file of domains/: beside it stands what is printed (NAME.out), or the
-# line that refuses it (NAME.line).
+# What `check` prints of the two domains, and of each domain file: of those in domains/, and of those that make/domains.py
+# writes from the rows there. Beside a file stands what is printed (NAME.out), or the line that refuses it (NAME.line), by
+# `clusters` as by `check`.
 cd -- "$top" || exit 1
 expect_file 'check, from the top' 0 "$here/two/two.check" '' check examples/two/two.toml
 cd -- "$here/domains" || exit 1
 expect_file 'check two.toml' 0 ../two/two.check '' check ../two/two.toml
 expect_file 'check twelve.toml' 0 ../twelve/twelve.check '' check ../twelve/twelve.toml
-for file in *.toml; do
-    if [[ -e ${file%.toml}.line ]]; then
-        expect "check domains/$file" 3 '' "$(<"${file%.toml}.line")" check "$file"
-    else
-        expect_file "check domains/$file" 0 "${file%.toml}.out" '' check "$file"
-    fi
-done
-alone=$(for file in *; do echo "${file%.*}"; done | LC_ALL=C sort | uniq -c | awk '$1 != 2 { print $2 }')
-if [[ -z $alone ]]; then tally 'names of the domain files' yes; else tally 'names of the domain files' no "${alone//$'\n'/ }"; fi
-
-# The clusters of a domain's network. A domain file is refused by `clusters` as by `check`.
 expect 'clusters two.toml' 0 'cluster 0 links 0 starts a ends b' '' clusters ../two/two.toml
 expect_file 'clusters twelve.toml' 0 ../twelve/twelve.clusters '' clusters ../twelve/twelve.toml
-for file in *.line; do
-    expect "clusters domains/${file%.line}.toml" 3 '' "$(<"$file")" clusters "${file%.line}.toml"
+python3 "$here/make/domains.py" "$scratch/domains"
+tally 'the rows of domains/' "$([[ $? == 0 ]] && echo yes)"
+for folder in "$here/domains" "$scratch/domains"; do
+    cd -- "$folder" || exit 1
+    for file in *.toml; do
+        if [[ -e ${file%.toml}.line ]]; then
+            expect "check domains/$file" 3 '' "$(<"${file%.toml}.line")" check "$file"
+            expect "clusters domains/$file" 3 '' "$(<"${file%.toml}.line")" clusters "$file"
+        else
+            expect_file "check domains/$file" 0 "${file%.toml}.out" '' check "$file"
+        fi
+    done
+    alone=$(for file in *; do [[ $file == rows.txt ]] || echo "${file%.*}"; done | LC_ALL=C sort | uniq -c | awk '$1 != 2 { print $2 }')
+    if [[ -z $alone ]]; then tally 'names of the domain files' yes; else tally 'names of the domain files' no "${alone//$'\n'/ }"; fi
 done
+cd -- "$here/domains" || exit 1
 expect 'clusters, missing' 4 '' 'altmark: missing.toml: missing' clusters missing.toml
 expect 'clusters, a folder' 5 '' 'altmark: ../two: read fault' clusters ../two
 if command -v dot >"$scratch/dot"; then
@@ -682,7 +688,7 @@ expect 'zeros' 3 '' 'altmark: zeros.pcap: bad magic' link 10000000000 0 74565 ze
 
 # Domain files that are made here, since they aren't small. One has as many nodes, links and flows as there may be, and as
 # many cells. The others have more, or one item that isn't like the rest.
-network() { python3 "$here/network.py" "$1.toml" "$1.out" "$2" "$3" "$4"; }
+network() { python3 "$here/make/network.py" "$1.toml" "$1.out" "$2" "$3" "$4"; }
 network most 128 1024 1024
 network nodes 129 1025 1025
 network links 128 1025 1025
