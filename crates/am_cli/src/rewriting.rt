@@ -1,5 +1,5 @@
 //! Captures whose packets are changed: which flow a record is of, and how it is written.
-ghost use Rattle.std.specs.Prelude.{◌≡◌, ◌≤◌, ◌++◌, ℕ, length, take, drop, IfSome, IfNone, OnOk};
+ghost use Rattle.std.specs.Prelude.{◌≡◌, ◌≤◌, ◌+◌, ◌++◌, ℕ, length, take, drop, vec_len, vec_capacity, IfSome, IfNone, OnOk};
 ghost use Rattle.am_pcap.specs.Packets.{most_captured};
 ghost use Rattle.am_pcap.specs.Spelling.{record_bytes, head_spelled};
 ghost use Rattle.am_pcap.specs.Shown.{packet_shown};
@@ -8,11 +8,11 @@ ghost use Rattle.am_cli.specs.Rewriting.{IsOfFlow, IsOfNoFlow};
 
 use crate::piece::Piece;
 use am_addr::Addr;
-use am_base::{Fault, put};
 use am_domain::Domain;
 use am_insert::Edit;
 use am_ip6::Fixed;
 use am_pcap::{Form, Frame, LinkKind, Record, packet_of, record_head};
+use std::alloc::AllocError;
 
 /// Where the packet of a record begins, and the number of its flow.
 #[derive(Clone, Copy)]
@@ -22,6 +22,7 @@ pub struct Matched {
 }
 
 /// The flow that the record is of. None where there is none.
+#[inline(always)]
 pub fn flow_of_record(domain: &Domain, link: LinkKind, record: &Record<'_>) -> Option<Matched>
     ensures found { IfSome result (λ m.
         IsOfFlow domain.now link (packet_shown record.now) m.at m.flow) }
@@ -45,19 +46,19 @@ pub fn flow_of_record(domain: &Domain, link: LinkKind, record: &Record<'_>) -> O
 }
 
 /// Makes this piece of the record as it is.
-pub fn keep_record(piece: &mut Piece, form: Form, record: &Record<'_>) -> Result<(), Fault>
+pub fn keep_record(piece: &mut Piece, form: Form, record: &Record<'_>) -> Result<(), AllocError>
     requires { length record.now.bytes.now ≤ most_captured }
     ensures { OnOk result
         (piece.new.bytes.items ≡ record_bytes form.big (packet_shown record.now)) }
 {
-    piece.clear();
     let captured = record.bytes.len() as u32;
-    put_head(piece, form, record, captured, record.original)?;
-    put(piece, record.bytes)
+    put_head(&mut piece.bytes, form, record, captured, record.original)?;
+    piece.bytes.extend_from_slice(record.bytes)
 }
 
 /// Makes this piece of the record whose packet, which begins at this place, is changed: so many bytes are captured of it
 /// then, and so many were on the wire.
+#[inline(always)]
 pub fn change_record(
     piece: &mut Piece,
     form: Form,
@@ -65,7 +66,7 @@ pub fn change_record(
     at: usize,
     edit: &Edit,
     lengths: (u32, u32),
-) -> Result<(), Fault>
+) -> Result<(), AllocError>
     requires within { at ≤ length record.now.bytes.now }
     requires edit { IsEditOf edit.now (drop at record.now.bytes.now) }
     ensures { OnOk result
@@ -73,26 +74,38 @@ pub fn change_record(
         ≡ head_spelled form.big record.now.seconds record.now.fraction lengths.0 lengths.1
         ++ (take at record.now.bytes.now ++ edited edit.now (drop at record.now.bytes.now))) }
 {
-    piece.clear();
     let (captured, original) = lengths;
-    put_head(piece, form, record, captured, original)?;
-    put(piece, &record.bytes[..at])?;
-    edit.write(&record.bytes[at..], piece)
+    put_head(&mut piece.bytes, form, record, captured, original)?;
+    let (front, packet) = record.bytes.split_at(at);
+    piece.bytes.extend_from_slice(front)?;
+    edit.append(packet, &mut piece.bytes);
+    Ok(())
 }
 
-// Adds what stands before the record's packet, with these lengths.
+// What stands before the record's packet, with these lengths, and nothing else; behind it is room for the record's bytes
+// and eight more. Each byte order has a call of its own, so that a compiler writes whole words.
+#[inline(always)]
 fn put_head(
-    piece: &mut Piece,
+    bytes: &mut Vec<u8>,
     form: Form,
     record: &Record<'_>,
     captured: u32,
     original: u32,
-) -> Result<(), Fault>
-    ensures { OnOk result (piece.new.bytes.items ≡ piece.old.bytes.items
-        ++ head_spelled form.big record.now.seconds record.now.fraction captured original) }
+) -> Result<(), AllocError>
+    ensures head { OnOk result (bytes.new.items
+        ≡ head_spelled form.big record.now.seconds record.now.fraction captured original) }
+    ensures room { OnOk result
+        (vec_len bytes.new + length record.now.bytes.now + 8 ≤ vec_capacity bytes.new) }
 {
-    put(
-        piece,
-        &record_head(form, record.seconds, record.fraction, captured, original),
-    )
+    bytes.clear();
+    bytes.reserve(record.bytes.len() + 24)?;
+    let (seconds, fraction) = (record.seconds, record.fraction);
+    if form.big {
+        return bytes.extend_from_slice(&record_head(form, seconds, fraction, captured, original));
+    }
+    let little = Form {
+        big: false,
+        nano: form.nano,
+    };
+    bytes.extend_from_slice(&record_head(little, seconds, fraction, captured, original))
 }

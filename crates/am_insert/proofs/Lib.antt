@@ -8,3 +8,4 @@ pub mod Refused
 pub mod Planned
 pub mod Alone
 pub mod Opened
+pub mod Brief

@@ -41,7 +41,7 @@ pad-none : (at : ℕ) → IsNoMark (pad_at at)
 pad-none at m s = absurd (cc (s.spelled))
 
 -- one option alone
-alone_mark : (bytes : List ℕ) (m : Marking) → Spells bytes m → HasMark bytes m 0
+pub alone_mark : (bytes : List ℕ) (m : Marking) → Spells bytes m → HasMark bytes m 0
 alone_mark bytes m s = record {
   before = [];
   option = option_at 0 bytes;

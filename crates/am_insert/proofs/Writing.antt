@@ -71,6 +71,44 @@ cut-parts p n t b at whole low =
     ap (λ (l : List ℕ). l ++ drop (at + 8) p) (sym (take-changed p n t b at whole low))
     ∙ ap (λ (l : List ℕ). take at (set (with_payload n p) t b) ++ l) (sym (drop-changed p n t b (at + 8) (omega arith) (omega arith)))
 
+-- a change behind a list
+set-behind : (xs ys : List ℕ) (n k b : ℕ) → length xs ≡ n → set (xs ++ ys) (n + k) b ≡ xs ++ set ys k b
+set-behind xs ys n k b size =
+    let place : n + k - n ≡ k = omega arith in
+    set-append_right xs ys n (n + k) b size (omega arith) ∙ ap (λ (i : ℕ). xs ++ set ys i b) place
+
+-- the bytes that change, of a part of the packet that stands behind a list
+abbrev pub changed_behind : List ℕ → ℕ → ℕ → ℕ → ℕ → List ℕ
+changed_behind list from n t b = set (set (set list (from + 4) (n / 2 ^ 8)) (from + 5) (n % 2 ^ 8)) (from + t) b
+
+behind-changed :
+    (xs p : List ℕ) (from n t b : ℕ) → length xs ≡ from → changed_behind (xs ++ p) from n t b ≡ xs ++ set (with_payload n p) t b
+behind-changed xs p from n t b size =
+    ap (λ (l : List ℕ). set (set l (from + 5) (n % 2 ^ 8)) (from + t) b) (set-behind xs p from 4 (n / 2 ^ 8) size)
+    ∙ ap (λ (l : List ℕ). set l (from + t) b) (set-behind xs (set p 4 (n / 2 ^ 8)) from 5 (n % 2 ^ 8) size)
+    ∙ set-behind xs (with_payload n p) from t b size
+
+-- a list, and behind it the three parts of a packet with eight bytes more
+pub behind-put :
+    (xs p ys : List ℕ) (from n t b at : ℕ) → length xs ≡ from → 40 ≤ at → t < at
+    → (changed_behind (xs ++ take at p) from n t b ++ ys) ++ drop at p ≡ xs ++ put_in (set (with_payload n p) t b) at ys
+behind-put xs p ys from n t b at size whole low =
+    let front = set (with_payload n (take at p)) t b in
+    ap (λ (l : List ℕ). (l ++ ys) ++ drop at p) (behind-changed xs (take at p) from n t b size)
+    ∙ ap (λ (l : List ℕ). l ++ drop at p) (append_assoc xs front ys)
+    ∙ append_assoc xs (front ++ ys) (drop at p)
+    ∙ ap (λ (l : List ℕ). xs ++ l) (put-parts p ys n t b at whole low)
+
+-- and the two parts of one with eight bytes fewer
+pub behind-cut :
+    (xs p : List ℕ) (from n t b at : ℕ) → length xs ≡ from → 40 ≤ at → t < at
+    → changed_behind (xs ++ take at p) from n t b ++ drop (at + 8) p ≡ xs ++ without_eight (set (with_payload n p) t b) at
+behind-cut xs p from n t b at size whole low =
+    let front = set (with_payload n (take at p)) t b in
+    ap (λ (l : List ℕ). l ++ drop (at + 8) p) (behind-changed xs (take at p) from n t b size)
+    ∙ append_assoc xs front (drop (at + 8) p)
+    ∙ ap (λ (l : List ℕ). xs ++ l) (cut-parts p n t b at whole low)
+
 -- a change in the first part
 pub set-first :
     (p : List ℕ) (n t b at : ℕ) → 40 ≤ at → t < at → at ≤ length p

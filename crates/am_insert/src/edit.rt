@@ -1,6 +1,6 @@
 //! An edit of a packet: eight bytes come in or go out, and the payload length and one further byte change.
 
-ghost use Rattle.std.specs.Prelude.{◌≡◌, ◌+◌, ◌≤◌, ◌<◌, ◌++◌, length, slice_set, OnOk, OnErr, IfOk};
+ghost use Rattle.std.specs.Prelude.{◌≡◌, ◌+◌, ◌≤◌, ◌<◌, ◌++◌, length, slice_set, vec_len, vec_capacity, OnOk, OnErr, IfOk};
 ghost use Rattle.std.specs.Io.KnownBytes.{append_known};
 ghost use Rattle.am_base.specs.Counts.{Rose};
 ghost use Rattle.am_base.specs.Sinks.{AppendsFront};
@@ -89,29 +89,49 @@ impl Edit {
         put_both(sink, &[self.byte], &behind[1..])
     }
 
+    /// Appends the changed packet to a list of bytes that has room for it. The bytes are those of the plan. No memory is
+    /// taken.
+    pub fn append(&self, bytes: &[u8], list: &mut Vec<u8>)
+        requires edit { IsEditOf self.now bytes.now }
+        requires room { vec_len list.old + length bytes.now + 8 ≤ vec_capacity list.old }
+        ensures { list.new.items ≡ list.old.items ++ edited self.now bytes.now }
+    {
+        let from = list.len();
+        let (front, behind) = bytes.split_at(self.at);
+        push_all(list, front);
+        list[from + 4] = (self.payload / 256) as u8;
+        list[from + 5] = (self.payload % 256) as u8;
+        list[from + self.place] = self.byte;
+        match &self.eight {
+            Some(eight) => {
+                push_all(list, eight);
+                push_all(list, behind);
+            }
+            None => push_all(list, &behind[MOVED..]),
+        }
+    }
+
     /// The changed packet. The bytes are those of the plan.
     pub fn apply(&self, alloc: Global, bytes: &[u8]) -> Result<Vec<u8>, AllocError>
         requires { IsEditOf self.now bytes.now }
         ensures { IfOk result (λ packet. packet.items ≡ edited self.now bytes.now) }
     {
-        let (front, behind) = bytes.split_at(self.at);
         let mut packet = Vec::with_capacity(alloc, bytes.len() + MOVED)?;
-        packet.extend_from_slice(front)?;
-        packet[4] = (self.payload / 256) as u8;
-        packet[5] = (self.payload % 256) as u8;
-        packet[self.place] = self.byte;
-        match &self.eight {
-            Some(eight) => {
-                packet.extend_from_slice(eight)?;
-                packet.extend_from_slice(behind)?;
-                Ok(packet)
-            }
-            None => {
-                packet.extend_from_slice(&behind[MOVED..])?;
-                Ok(packet)
-            }
-        }
+        self.append(bytes, &mut packet);
+        Ok(packet)
     }
+}
+
+// Appends bytes for which the list has room.
+fn push_all(list: &mut Vec<u8>, bytes: &[u8])
+    requires { vec_len list.old + length bytes.now ≤ vec_capacity list.old }
+    ensures items { list.new.items ≡ list.old.items ++ bytes.now }
+    ensures len { vec_len list.new ≡ vec_len list.old + length bytes.now }
+    ensures room { vec_capacity list.old ≤ vec_capacity list.new }
+{
+    let taken = list.extend_from_slice(bytes);
+    let fits = taken.is_ok();
+    prove!(fits);
 }
 
 // Appends these bytes, and then the others.

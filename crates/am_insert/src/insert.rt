@@ -5,7 +5,7 @@
 //! alone: a Hop-by-Hop Options header directly behind the fixed header, a Destination Options header behind all headers
 //! that are walked.
 
-ghost use Rattle.std.specs.Prelude.{◌≡◌, ◌≢◌, ◌<◌, ◌≤◌, ◌+◌, ℕ, List, length, slice_index, IfOk, IfErr, OnOk, IfSome, IsSomeAnd, MatchOption, IsOk, Err};
+ghost use Rattle.std.specs.Prelude.{◌≡◌, ◌≢◌, ◌<◌, ◌≤◌, ◌+◌, ℕ, List, Bool, length, slice_index, IfOk, IfErr, OnOk, IfSome, IsSomeAnd, MatchOption, IsOk, None, Err};
 ghost use Rattle.std.specs.Bool.{MatchBool};
 ghost use Rattle.std.specs.Option.{ForSome};
 ghost use Rattle.am_ip6.specs.Fixed.{IsFixed, payload_of};
@@ -13,6 +13,7 @@ ghost use Rattle.am_ip6.specs.Chains.{Lent, HasHeaders, Stands};
 ghost use Rattle.am_ip6.specs.Endings.Ended.{AtNumber};
 ghost use Rattle.am_ip6.specs.Marks.Seen.{NoMark};
 ghost use Rattle.am_ip6.specs.Seen.{IsSeen};
+ghost use Rattle.am_ip6.specs.Brief.{IsBrief, WalksBriefly};
 ghost use Rattle.am_ip6.specs.Shown.{lent};
 ghost use Rattle.am_insert.specs.Changes.{IsBytes, kind_of, spot_of_new};
 ghost use Rattle.am_insert.specs.Inserting.{Inserted, PutsHeader, Lengthens, WalkEnds, IsNoPacket, IsUnmarked, IsMarkedAt, IsFullHeader, HindersFirst, IsOpen};
@@ -21,7 +22,7 @@ ghost use Rattle.am_insert.specs.Parts.{FindsFirst, FollowsHeaders, Bounds, IsEi
 
 use crate::edit::Edit;
 use crate::shape::{first_header, number_of, payload};
-use am_ip6::{Ending, Found, Header, Place, find_mark, seen_law, walk_ending, walk_law};
+use am_ip6::{Brief, Ending, Found, Header, Place, find_mark, seen_law, walk_ending, walk_law};
 use am_opts::{Mark, encode_mark};
 
 // The fixed header (RFC 8200, section 3).
@@ -120,8 +121,58 @@ fn edit_for(bytes: &[u8], place: Place, room: Room, mark: Mark) -> Edit
     }
 }
 
-// The room that a packet has for a mark, or what hinders first that one is put in.
+// The room that a packet has for a mark, or what hinders first that one is put in. Most packets have no header, which one
+// look tells.
 fn room_in(bytes: &[u8], whole: bool, place: Place) -> Result<Room<'_>, InsertError>
+    ensures room { IfOk result (λ r. HasRoom bytes.now place r) }
+    ensures open { OnOk result (IsOpen bytes.now whole place) }
+    ensures unmarked { OnOk result (IsUnmarked bytes.now whole place) }
+    ensures refused { IfErr result (λ e. HindersFirst bytes.now whole place e) }
+{
+    let Some(brief) = Brief::read(bytes) else {
+        return room_by_walk(bytes, whole, place);
+    };
+    match brief.mark {
+        None => room_behind_fixed(bytes, brief.next),
+        Some(_) => room_by_walk(bytes, whole, place),
+    }
+}
+
+// The same of a packet without headers, behind whose fixed header this number's bytes stand. It is the same for each kind
+// of header.
+fn room_behind_fixed(bytes: &[u8], next: u8) -> Result<Room<'_>, InsertError>
+    requires bare { IsBrief bytes.now None next }
+    requires walk { (whole : Bool) → WalksBriefly bytes.now None next whole }
+    ensures room { IfOk result (λ r. (place : Place) → HasRoom bytes.now place r) }
+    ensures open { OnOk result ((whole : Bool) (place : Place) → IsOpen bytes.now whole place) }
+    ensures unmarked { OnOk result ((whole : Bool) (place : Place)
+        → IsUnmarked bytes.now whole place) }
+    ensures refused { IfErr result (λ e. (whole : Bool) (place : Place)
+        → HindersFirst bytes.now whole place e) }
+{
+    walk_law();
+    seen_law();
+    if next == AUTHENTICATION {
+        return Err(InsertError::Protected);
+    }
+    let Some(payload) = raised_payload(bytes) else {
+        return Err(InsertError::PacketFull);
+    };
+    let end = Announced {
+        next,
+        at: FIXED_LENGTH,
+        told_at: 6,
+    };
+    Ok(Room {
+        first: None,
+        end,
+        payload,
+    })
+}
+
+// The same, by walks of the headers.
+#[inline(never)]
+fn room_by_walk(bytes: &[u8], whole: bool, place: Place) -> Result<Room<'_>, InsertError>
     ensures room { IfOk result (λ r. HasRoom bytes.now place r) }
     ensures open { OnOk result (IsOpen bytes.now whole place) }
     ensures unmarked { OnOk result (IsUnmarked bytes.now whole place) }

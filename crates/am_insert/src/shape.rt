@@ -9,7 +9,7 @@ ghost use Rattle.am_insert.specs.Parts.{FindsFirst, Bounds};
 use am_ip6::{Header, Place, Walk, walk_law};
 
 // Hop-by-Hop Options (RFC 8200, section 4.3).
-const HOP_BY_HOP: u8 = 0;
+pub(crate) const HOP_BY_HOP: u8 = 0;
 
 // Destination Options (RFC 8200, section 4.6).
 const DESTINATION: u8 = 60;

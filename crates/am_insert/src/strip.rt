@@ -7,6 +7,7 @@ ghost use Rattle.am_opts.specs.Options.{IsOptionList};
 ghost use Rattle.am_ip6.specs.Chains.{HasOptions};
 ghost use Rattle.am_ip6.specs.Marks.{HasNoMark, IsPassed};
 ghost use Rattle.am_ip6.specs.Shown.{lent};
+ghost use Rattle.am_ip6.specs.Brief.{IsBrief, WalksBriefly};
 ghost use Rattle.am_insert.specs.Changes.{IsBytes};
 ghost use Rattle.am_insert.specs.Inserting.{Inserted, IsUnmarked};
 ghost use Rattle.am_insert.specs.Stripping.{Stripped};
@@ -15,8 +16,8 @@ ghost use Rattle.am_insert.specs.Parts.{Bounds, ShowsFirst, CutsOut, IsInNoShape
 
 use crate::edit::Edit;
 use crate::laws::insert_law;
-use crate::shape::{number_of, payload};
-use am_ip6::{Header, Place, Walk, walk_law};
+use crate::shape::{HOP_BY_HOP, number_of, payload};
+use am_ip6::{Brief, Header, Place, Walk, walk_law};
 use am_opts::{Mark, Options, decode_mark, longest_front_law, mark_law};
 
 // A mark that is the last option of its header stands so many bytes before the end of the header's options and of its
@@ -25,6 +26,11 @@ const MARK_END: usize = 8;
 
 // How many bytes go out.
 const MOVED: u16 = 8;
+
+// The fixed header (RFC 8200, section 3), and a header of eight bytes behind it.
+const FIXED_LENGTH: usize = 40;
+
+const LONE_END: usize = 48;
 
 // An option that is a mark, its place among the options of its header, and whether the option before it is a PadN
 // without data.
@@ -109,8 +115,47 @@ fn cut_out(bytes: &[u8], marked: &MarkedHeader) -> Option<Edit>
     })
 }
 
-// The first header of the kind that has a mark.
+// The first header of the kind that has a mark. Most packets have no other header, or none, which one look tells.
 fn first_marked(bytes: &[u8], whole: bool, place: Place) -> Option<MarkedHeader<'_>>
+    ensures { FindsMark bytes.now place result }
+{
+    match Brief::read(bytes) {
+        Some(brief) => marked_at_once(bytes, place, brief),
+        None => marked_by_walk(bytes, whole, place),
+    }
+}
+
+// The same of a packet of few headers.
+fn marked_at_once(bytes: &[u8], place: Place, brief: Brief) -> Option<MarkedHeader<'_>>
+    requires brief { IsBrief bytes.now brief.mark brief.next }
+    requires walk { (whole : Bool) → WalksBriefly bytes.now brief.mark brief.next whole }
+    ensures { FindsMark bytes.now place result }
+{
+    walk_law();
+    let Some(mark) = brief.mark else {
+        return None;
+    };
+    match place {
+        Place::HopByHop => Some(MarkedHeader {
+            header: Header {
+                kind: HOP_BY_HOP,
+                at: FIXED_LENGTH,
+                bytes: &bytes[FIXED_LENGTH..LONE_END],
+            },
+            told_at: 6,
+            option: MarkOption {
+                mark,
+                at: 0,
+                padded: false,
+            },
+        }),
+        Place::Destination => None,
+    }
+}
+
+// The same, by a walk of the headers.
+#[inline(never)]
+fn marked_by_walk(bytes: &[u8], whole: bool, place: Place) -> Option<MarkedHeader<'_>>
     ensures { FindsMark bytes.now place result }
 {
     walk_law();

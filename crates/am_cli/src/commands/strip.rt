@@ -15,7 +15,7 @@ use crate::piece::Piece;
 use crate::printing::{Printing, print_capture};
 use crate::rewriting::{Matched, change_record, flow_of_record, keep_record};
 use crate::words::DomainFileWords;
-use am_base::{Fault, Shelf, Sink};
+use am_base::{Shelf, Sink};
 use am_domain::Domain;
 use am_insert::{Edit, plan_strip};
 use am_pcap::{Head, Record};
@@ -106,7 +106,7 @@ fn strip_record(
     head: &Head,
     packet: &Record<'_>,
     own: &OwnMark,
-) -> Result<(), Fault>
+) -> Result<(), AllocError>
     requires short { length packet.now.bytes.now ≤ most_captured }
     requires within { own.now.at ≤ length packet.now.bytes.now }
     requires edit { IsEditOf own.now.edit (drop own.now.at packet.now.bytes.now) }

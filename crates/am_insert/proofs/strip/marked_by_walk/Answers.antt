@@ -8,7 +8,7 @@ use Rattle.am_ip6.specs.Shown.{lent}
 use Rattle.am_ip6.specs.Left.{left}
 use Rattle.am_insert.proofs.Headers.{yields-rest, yields-all, member-in, after-push, marked-from, passed-from}
 use Rattle.am_insert.proofs.Planned.{bounds, in-options}
-use Rattle.am_insert.proofs.strip.first_marked.Goals as goal
+use Rattle.am_insert.proofs.strip.marked_by_walk.Goals as goal
 
 pub loop-header-init : goal.loop-header-init
 loop-header-init c = record {

@@ -3,7 +3,7 @@ use Rattle.std.proofs.Common.{◌≡◌, map, All}
 use Rattle.am_ip6.specs.Chains.{first_spot, spot_after}
 use Rattle.am_ip6.specs.Marks.{IsPassed}
 use Rattle.am_ip6.specs.Shown.{lent}
-use Rattle.am_insert.proofs.strip.first_marked.Given as goal
+use Rattle.am_insert.proofs.strip.marked_by_walk.Given as goal
 
 abbrev pub invariant-loop-header : goal.invariant-loop-header
 invariant-loop-header l = record {
