@@ -11,7 +11,6 @@ use Rattle.am_control.specs.Texts.{loss_text}
 use Rattle.am_control.specs.declared.error.ControlError.{ControlError}
 use Rattle.am_control.specs.declared.error.ControlError.TheVariants.{ReportTwice, MissingReport, Memory}
 use Rattle.am_domain.specs.Domains.{DomainValue}
-use Rattle.am_meter.specs.Metering.{AreMetered}
 use Rattle.am_meter.specs.MeteredFiles.{capture_of, no_node}
 use Rattle.am_meter.specs.declared.stream.Marked.{Marked}
 use Rattle.am_cli.specs.Answers.{Answer}
@@ -19,6 +18,7 @@ use Rattle.am_cli.specs.Answers.Ending.{Done}
 use Rattle.am_cli.specs.Chains.Chain.{Writes}
 use Rattle.am_cli.specs.Chains.{Inputs, Output, Judged, Follows, Performs}
 use Rattle.am_cli.specs.Inputs.{JudgesCapture}
+use Rattle.am_cli.specs.NodeCells.{AreCellsOf}
 use Rattle.am_cli.specs.Auditing.{TakesFirst, ReportsIgnoreWorkers, TablesIgnoreWorkers, with_workers}
 use Rattle.am_cli.specs.commands.Audit.{HaveCells, IsLossTable, audit_from}
 
@@ -53,18 +53,18 @@ takes-none d plan before control planned none = record {
 -- the cells of one more node
 more-cells :
     (d : DomainValue) (i : ℕ) (taken : List (List Marked)) (cells : List CellTable) (ms : List Marked) (table : CellTable)
-    → length taken ≡ i → HaveCells d i taken cells → AreMetered d i ms table → HaveCells d (i + 1) (taken ++ ms ∷ []) (cells ++ table ∷ [])
+    → length taken ≡ i → HaveCells d i taken cells → AreCellsOf d i ms table → HaveCells d (i + 1) (taken ++ ms ∷ []) (cells ++ table ∷ [])
 more-cells d i taken cells ms table many have metered = record {
   each = length-append cells (table ∷ []) ∙ ap (λ n. n + 1) have.each;
-  metered = below_more (λ node. AreMetered d node (get_or (taken ++ ms ∷ []) node []) (get_or (cells ++ table ∷ []) node no_table)) i
+  metered = below_more (λ node. AreCellsOf d node (get_or (taken ++ ms ∷ []) node []) (get_or (cells ++ table ∷ []) node no_table)) i
       (λ node h.
       let left : node < length taken = omega (arith, many, h) in
       let right : node < length cells = omega (arith, have.each, h) in
-      subst (λ x. AreMetered d node x (get_or (cells ++ table ∷ []) node no_table)) (sym (get_or_append_left taken (ms ∷ []) [] node left))
-      (subst (λ x. AreMetered d node (get_or taken node []) x) (sym (get_or_append_left cells (table ∷ []) no_table node right)) (have.metered node h)))
+      subst (λ x. AreCellsOf d node x (get_or (cells ++ table ∷ []) node no_table)) (sym (get_or_append_left taken (ms ∷ []) [] node left))
+      (subst (λ x. AreCellsOf d node (get_or taken node []) x) (sym (get_or_append_left cells (table ∷ []) no_table node right)) (have.metered node h)))
       (let there : get_or (taken ++ ms ∷ []) i [] ≡ ms = ap (λ k. get_or (taken ++ ms ∷ []) k []) (sym many) ∙ get_or-append_seam taken ms [] [] in
       let here : get_or (cells ++ table ∷ []) i no_table ≡ table = ap (λ k. get_or (cells ++ table ∷ []) k no_table) (sym have.each) ∙ get_or-append_seam cells table [] no_table in
-      subst (λ x. AreMetered d i x (get_or (cells ++ table ∷ []) i no_table)) (sym there) (subst (λ x. AreMetered d i ms x) (sym here) metered));
+      subst (λ x. AreCellsOf d i x (get_or (cells ++ table ∷ []) i no_table)) (sym there) (subst (λ x. AreCellsOf d i ms x) (sym here) metered));
 }
 
 -- the reports with that of one more node
@@ -86,7 +86,7 @@ more-reports n i cells table many h =
 pub takes-one :
     (d : DomainValue) (i : ℕ) (plan : LossPlan) (before now behind : Inputs) (old new : ControlValue) (ms : List Marked) (table : CellTable)
     → i < length d.nodes → TakesFirst d i plan before now old
-    → Judged now.told (capture_of d i) (JudgesCapture d.kind) (Ok ms) → Follows now behind → AreMetered d i ms table → Accepts old new i table
+    → Judged now.told (capture_of d i) (JudgesCapture d.kind) (Ok ms) → Follows now behind → AreCellsOf d i ms table → Accepts old new i table
     → TakesFirst d (i + 1) plan before behind new
 takes-one d i plan before now behind old new ms table h so judged follows metered accepts = record {
   taken = so.taken ++ ms ∷ [];
@@ -155,8 +155,8 @@ table-of-all d plan before now control m so planned measured =
     }
 
 metered-alike :
-    (d : DomainValue) (workers node : ℕ) (ms : List Marked) (t : CellTable) → AreMetered d node ms t → AreMetered (with_workers d workers) node ms t
-metered-alike d workers node ms t h = record { table = h.table; cells = h.cells }
+    (d : DomainValue) (workers node : ℕ) (ms : List Marked) (t : CellTable) → AreCellsOf d node ms t → AreCellsOf (with_workers d workers) node ms t
+metered-alike d workers node ms t h = record { table = h.table; metered = record { table = h.metered.table; cells = h.metered.cells } }
 
 pub reports-alike : ReportsIgnoreWorkers
 reports-alike d workers node ms text h =

@@ -4,11 +4,14 @@ use Rattle.std.specs.Prelude.{Result, Ok, bytes_eq, cond}
 use Rattle.am_base.specs.Shelves.{Told}
 use Rattle.am_ip6.specs.declared.marks.Place.TheVariants.{HopByHop}
 use Rattle.am_cli.specs.Forms.{Kind, Command, SaysCommand, IsNoCommand, form}
-use Rattle.am_cli.specs.Forms.Kind.{Linking, Showing, Checking, Clustering, MarkingPackets, Stripping, Metering, Auditing}
-use Rattle.am_cli.specs.Inputs.{JudgesCapture, JudgesDomain}
-use Rattle.am_domain.specs.Domains.{DomainValue}
+use Rattle.am_cli.specs.Forms.Kind.{Linking, Showing, Checking, Clustering, MarkingPackets, Stripping, Metering, Auditing, Gathering}
+use Rattle.am_cli.specs.Inputs.{JudgesCapture, JudgesDomain, JudgesReport}
+use Rattle.am_cli.specs.Gathering.{node_without}
+use Rattle.am_domain.specs.Domains.{DomainValue, IsLawful}
+use Rattle.am_report.specs.Rows.{node_name}
+use Rattle.am_report.specs.declared.read.Report.{Report}
 use Rattle.am_cli.specs.Answers.{Reason}
-use Rattle.am_cli.specs.Answers.Reason.{UnknownNode}
+use Rattle.am_cli.specs.Answers.Reason.{UnknownNode, NoReport}
 use Rattle.am_cli.specs.Chains.{Stream, Chain, Judged}
 use Rattle.am_cli.specs.Chains.Chain.{Reads, Streams}
 use Rattle.am_cli.specs.NodeWords.{at_node, node_named}
@@ -21,6 +24,7 @@ use Rattle.am_cli.specs.Answers.Ending.{Done}
 use Rattle.am_domain.specs.Values.{NodeValue}
 use Rattle.am_meter.specs.declared.stream.Marked.{Marked}
 use Rattle.am_cli.specs.commands.Audit.{audit_from}
+use Rattle.am_cli.specs.commands.Loss.{Loss, SaysLossWords, loss_from, loss_of_all}
 use Rattle.am_cli.specs.commands.Meter.{Meter, SaysMeterWords, report_chain}
 use Rattle.am_cli.specs.commands.Mark.{marked_records}
 use Rattle.am_cli.specs.commands.Strip.{stripped_records}
@@ -37,7 +41,8 @@ named word =
     (cond (bytes_eq word (codes "mark")) (Some MarkingPackets)
     (cond (bytes_eq word (codes "strip")) (Some Stripping)
     (cond (bytes_eq word (codes "meter")) (Some Metering)
-    (cond (bytes_eq word (codes "audit")) (Some Auditing) None)))))))
+    (cond (bytes_eq word (codes "audit")) (Some Auditing)
+    (cond (bytes_eq word (codes "loss")) (Some Gathering) None))))))))
 
 verb-named : (k : Kind) → named (form k).verb ≡ Some k
 unfolding named
@@ -49,6 +54,7 @@ verb-named MarkingPackets = refl
 verb-named Stripping = refl
 verb-named Metering = refl
 verb-named Auditing = refl
+verb-named Gathering = refl
 
 -- the words of `link` by their parts
 abbrev made : ℕ → ℕ → ℕ → List ℕ → List ℕ → Link
@@ -88,6 +94,17 @@ meter-once words a b s t =
     let node : a.node ≡ b.node = cc (same) in
     ap (λ x. asked_so x a.node) domain ∙ ap (λ x. asked_so b.domain x) node
 
+-- the words DOMAIN REPORT.. by their parts
+abbrev gathered_so : List ℕ → List (List ℕ) → Loss
+gathered_so domain reports = record { domain = domain; reports = reports }
+
+loss-once : (words : List (List ℕ)) (a b : Loss) → SaysLossWords words a → SaysLossWords words b → a ≡ b
+loss-once words a b s t =
+    let same = sym s.spelled ∙ t.spelled in
+    let domain : a.domain ≡ b.domain = cc (same) in
+    let reports : a.reports ≡ b.reports = cc (same) in
+    ap (λ x. gathered_so x a.reports) domain ∙ ap (λ x. gathered_so b.domain x) reports
+
 -- the words after the first say one thing
 once : (k : Kind) (words : List (List ℕ)) (a b : (form k).Asked) → (form k).says words a → (form k).says words b → a ≡ b
 once Linking words a b s t = link-once words a b s t
@@ -98,6 +115,7 @@ once MarkingPackets words a b s t = domain-file-once words a b s t
 once Stripping words a b s t = domain-file-once words a b s t
 once Metering words a b s t = meter-once words a b s t
 once Auditing words a b s t = let same : a.file ≡ b.file = cc (sym s.spelled ∙ t.spelled) in ap (λ f. record { file = f }) same
+once Gathering words a b s t = loss-once words a b s t
 
 -- what is taken of one file twice is one thing
 both-judged :
@@ -135,6 +153,19 @@ same-audited t d laws [] xs ys = same-writes t Done _ _
 same-audited t d laws (n ∷ ns) xs ys =
     same-reads t n.capture (JudgesCapture d.kind) _ _ (laws.marks d.kind) (λ ms ls p q. same-audited t d laws ns (xs ++ ms ∷ []) (ys ++ ls ∷ []))
 
+same-of-all : (t : Told) (d : DomainValue) (taken : List Report) (node : Option ℕ) → SameEnds t (loss_of_all d taken node) (loss_of_all d taken node)
+same-of-all t d taken None = same-writes t Done _ _
+same-of-all t d taken (Some node) = same-refuses t None None (NoReport (node_name d node)) (NoReport (node_name d node))
+
+same-gathered :
+    (t : Told) (d : DomainValue) → Laws → IsLawful d → (names : List (List ℕ)) (taken : List Report)
+    → SameEnds t (loss_from d names taken) (loss_from d names taken)
+same-gathered t d laws lawful [] taken = same-of-all t d taken (node_without d taken)
+same-gathered t d laws lawful (name ∷ names) taken =
+    same-reads t name (JudgesReport d taken) _ _ (laws.reports d taken lawful)
+    (λ r s p q. subst (λ (b : Report). SameEnds t (loss_from d names (taken ++ r ∷ [])) (loss_from d names (taken ++ b ∷ [])))
+    (both-judged t name (JudgesReport d taken) (laws.one_report d taken lawful) r s p q) (same-gathered t d laws lawful names (taken ++ r ∷ [])))
+
 -- two chains of one command come to one status
 pub settled : (t : Told) (k : Kind) (a : (form k).Asked) → Laws → SameEnds t ((form k).chain a) ((form k).chain a)
 settled t Linking a laws =
@@ -155,6 +186,10 @@ settled t Stripping a laws =
 settled t Metering a laws =
     same-for-one t a.domain _ laws (λ d. same-at-node t (node_named d a.node) (report_chain d) (λ node. same-reported t d node laws))
 settled t Auditing a laws = same-for-one t a.file _ laws (λ d. same-audited t d laws d.nodes [] [])
+settled t Gathering a laws =
+    same-reads t a.domain JudgesDomain _ _ laws.domain
+    (λ d e p q. subst (λ (b : DomainValue). SameEnds t (loss_from d a.reports []) (loss_from b a.reports []))
+    (both-judged t a.domain JudgesDomain laws.one_domain d e p q) (same-gathered t d laws (laws.lawful p.0 d p.2) a.reports []))
 
 -- what holds of one command that the words are holds of the other
 pub says-once : (P : Command → Type 0) (words : List (List ℕ)) (c d : Command) → SaysCommand words c → SaysCommand words d → P c → P d

@@ -22,11 +22,19 @@ use Rattle.am_meter.specs.declared.stream.MeterError.TheVariants as meter
 use Rattle.am_domain.specs.Domains.{DomainValue, IsDomainOf, IsDomainRefusal, TellsRefusal}
 use Rattle.am_domain.specs.declared.error.DomainError.{DomainError}
 use Rattle.am_domain.specs.declared.error.DomainError.TheVariants as domain
+use Rattle.am_report.specs.Reports.{IsReportOf, IsReportRefusal, TellsReportRefusal}
+use Rattle.am_report.specs.ReportTexts.{named_flow}
+use Rattle.am_report.specs.Rows.{node_name}
+use Rattle.am_report.specs.declared.error.ReportError.{ReportError}
+use Rattle.am_report.specs.declared.error.ReportError.TheVariants as report
+use Rattle.am_report.specs.declared.read.Report.{Report}
+use Rattle.am_report.specs.declared.read.TheConstants.{MAX_REPORT}
 use Rattle.am_cli.specs.Answers.{Reason, Answer}
-use Rattle.am_cli.specs.Answers.Reason.{BadDomain}
+use Rattle.am_cli.specs.Answers.Reason.{BadDomain, BadReport, ReportTwice}
 use Rattle.am_cli.specs.Chains.{Inputs, Judged, Follows, StopsHere}
-use Rattle.am_cli.specs.Inputs.{JudgesCapture, JudgesDomain, marks_reason, most_domain}
-use Rattle.am_cli.specs.Shown.{IsAnswered, stream_answer, domain_answer}
+use Rattle.am_cli.specs.Gathering.{cells_of}
+use Rattle.am_cli.specs.Inputs.{JudgesCapture, JudgesDomain, JudgesReport, marks_reason, most_domain}
+use Rattle.am_cli.specs.Shown.{IsAnswered, stream_answer, domain_answer, report_answer}
 use Rattle.am_cli.proofs.ChainLemmas.{rose-later}
 
 -- a file that was read is judged as its bytes are
@@ -65,6 +73,30 @@ pub domain-excludes :
     → (bytes : List ℕ) (d : DomainValue) (reason : Reason) → JudgesDomain bytes (Ok d) → JudgesDomain bytes (Err reason) → ⊥
 domain-excludes law bytes d reason taken refused =
     elim refused [ inl x ↦ omega (arith, taken.0, x.1) | inr x ↦ law bytes d x.0 taken.1 x.3 ]
+
+-- bytes that aren't read as a report are a stop at their file
+pub report-stops :
+    (before after : Inputs) (name bytes : List ℕ) (d : DomainValue) (taken : List Report) (e : ReportError)
+    → HasFile before.told name bytes → length bytes ≤ MAX_REPORT → TellsReportRefusal d bytes e
+    → StopsHere before after name (JudgesReport d taken) (report_answer name d e)
+report-stops before after name bytes d taken report.Memory there short h = tt
+report-stops before after name bytes d taken e there short h =
+    (refl, judged-of before.told name (JudgesReport d taken) bytes (Err (BadReport e (named_flow d e))) there (inr (inl (e, refl, short, h))))
+
+-- a report that is taken isn't refused
+pub report-excludes :
+    (d : DomainValue) (taken : List Report)
+    → ((bytes : List ℕ) (a b : Report) → IsReportOf d bytes a → IsReportOf d bytes b → a ≡ b)
+    → ((bytes : List ℕ) (r : Report) (e : ReportError) → IsReportOf d bytes r → IsReportRefusal d bytes e → ⊥)
+    → (bytes : List ℕ) (r : Report) (reason : Reason) → JudgesReport d taken bytes (Ok r) → JudgesReport d taken bytes (Err reason) → ⊥
+report-excludes d taken one law bytes r reason so refused =
+    elim refused [
+      | inl x ↦ omega (arith, so.0, x.1)
+      | inr y ↦ elim y [
+        | inl x ↦ law bytes r x.0 so.1 x.3
+        | inr x ↦ let same : x.0 ≡ r = one bytes x.0 r x.3 so.1 in cc (so.2, x.4, same)
+      ]
+    ]
 
 -- a whole capture begins with all its records
 pub whole-begins : (bytes : List ℕ) (h : Head) (ps : List Packet) → IsWholeCapture bytes h ps → BeginsWith bytes h ps

@@ -15,3 +15,5 @@ pub mod StripLemmas
 pub mod NodeLemmas
 pub mod AuditLemmas
 pub mod UndoLemmas
+pub mod GatherLemmas
+pub mod AgreeLemmas

@@ -1,7 +1,7 @@
 -- The newest block of each flow, as records come; and what a record with its mark is.
 use Rattle.std.proofs.Common.{◌≡◌, ℕ, ◌+◌, ◌-◌, ◌*◌, ◌/◌, ◌%◌, ◌^◌, ◌<◌, ◌≤◌, Bool, List, [], ◌∷◌, ◌++◌, length, take, drop, refl, ap, sym, ◌∙◌, subst, arith, inl, inr}
 use Rattle.std.specs.Prelude.{IsTrue, nat_le, ◌↔◌, ◌⊎◌, Contains, replicate, slice_index, slice_index_or, slice_set, max}
-use Rattle.std.proofs.lemmas.List.{length-append, length-take, length-drop, take-append-drop, set-get_or, length-set, length-replicate, get_or-replicate, get_or-set_same, get_or-set_other}
+use Rattle.std.proofs.lemmas.List.{length-append, length-take, length-drop, take-append-drop, length-set, length-replicate, get_or-replicate, get_or-set_same, get_or-set_other}
 use Rattle.std.proofs.lemmas.List.Elements.{Contains-append_left, Contains-append_right, Contains-append_cases}
 use Rattle.am_opts.specs.Marking.{Marking, IsCanonical}
 use Rattle.am_ip6.specs.declared.marks.Place.{Place}
@@ -236,19 +236,6 @@ pub captured-fewer : (bytes packet : List ℕ) (at : ℕ) → at ≤ length byte
     → length bytes - 8 ≡ length (take at bytes ++ packet)
 captured-fewer bytes packet at within e =
     omega (arith, within, e, length-drop at bytes, length-take at bytes, length-append (take at bytes) packet)
-
--- the flow's newest block is now one behind this one
-pub newest-set : (newest : List ℕ) (flow block : ℕ) → slice_index newest flow ≤ block
-    → slice_set newest flow (block + 1) ≡ slice_set newest flow (max (slice_index newest flow) (block + 1))
-newest-set newest flow block low =
-    let greatest : block + 1 ≡ max (slice_index newest flow) (block + 1) = omega (arith, low) in ap (λ n. slice_set newest flow n) greatest
-
--- or stays as it is
-pub newest-stays : (newest : List ℕ) (flow block : ℕ) → block < slice_index newest flow
-    → newest ≡ slice_set newest flow (max (slice_index newest flow) (block + 1))
-newest-stays newest flow block high =
-    let greatest : slice_index newest flow ≡ max (slice_index newest flow) (block + 1) = omega (arith, high) in
-    sym (set-get_or newest flow 0) ∙ ap (λ n. slice_set newest flow n) greatest
 
 -- a record of a flow, with its mark
 pub adds-marked : (d : DomainValue) (h : Head) (p : Packet) (at number : ℕ) (old new piece : List ℕ) (n : ℕ)

@@ -1,5 +1,7 @@
 -- Words in a list.
-use Rattle.std.proofs.Common.{◌≡◌, ℕ, ◌<◌, ◌≤◌, ◌-◌, List, [], ◌∷◌, length, get_or, take, drop, map, ap, ◌∙◌, arith}
+use Rattle.std.proofs.Common.{◌≡◌, ℕ, ◌<◌, ◌≤◌, ◌-◌, List, [], ◌∷◌, length, get_or, take, drop, map, ap, ◌∙◌, arith, sym, subst, ◌+◌, All, string_bytes, String, Global, below_more}
+use Rattle.std.proofs.lemmas.List.{get_or-map, length-map}
+use Rattle.am_cli.specs.WordForms.{IsFileName}
 use Rattle.std.proofs.Math.Seq.{take-length}
 
 -- a list that isn't empty is its first word and the rest
@@ -30,3 +32,24 @@ five f (a ∷ b ∷ c ∷ []) p q r s t low high = absurd (omega arith)
 five f (a ∷ b ∷ c ∷ d ∷ []) p q r s t low high = absurd (omega arith)
 five f (a ∷ b ∷ c ∷ d ∷ e ∷ []) p q r s t low high = λ ip iq ir is it. cc
 five f (a ∷ b ∷ c ∷ d ∷ e ∷ g ∷ more) p q r s t low high = absurd (omega arith)
+
+-- a word as it stands among all
+pub word-at : (words : List (String Global)) (i : ℕ) (d : List ℕ) (item : String Global) (word : List ℕ)
+    → i < length words → item ≡ get_or words i item → word ≡ string_bytes item → get_or (map string_bytes words) i d ≡ word
+word-at words i d item word h is said = get_or-map string_bytes words i item d h ∙ ap string_bytes (sym is) ∙ sym said
+
+-- one more word is the name of a file
+pub names-more : (words : List (String Global)) (i : ℕ) (item : String Global) (word : List ℕ)
+    → i < length words → item ≡ get_or words i item → word ≡ string_bytes item → IsFileName word
+    → ((k : ℕ) (d : List ℕ) → k < i → IsFileName (get_or (map string_bytes words) k d))
+    → (k : ℕ) (d : List ℕ) → k < i + 1 → IsFileName (get_or (map string_bytes words) k d)
+names-more words i item word h is said named so k d below =
+    below_more (λ j. IsFileName (get_or (map string_bytes words) j d)) i (λ j low. so j d low)
+    (subst IsFileName (sym (word-at words i d item word h is said)) named) k below
+
+-- a word that is no name
+pub none-of-names : (words : List (String Global)) (i : ℕ) (item : String Global) (word : List ℕ)
+    → i < length words → item ≡ get_or words i item → word ≡ string_bytes item → (IsFileName word → ⊥)
+    → All IsFileName (map string_bytes words) → ⊥
+none-of-names words i item word h is said not all =
+    not (subst IsFileName (word-at words i [] item word h is said) (all i [] (omega (arith, h, length-map words string_bytes))))

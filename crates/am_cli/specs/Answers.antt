@@ -6,6 +6,8 @@ use Rattle.am_domain.specs.declared.error.DomainError.{DomainError}
 use Rattle.am_domain.specs.DomainTexts.{domain_text}
 use Rattle.am_insert.specs.declared.insert.InsertError.{InsertError}
 use Rattle.am_insert.specs.InsertTexts.{insert_text}
+use Rattle.am_report.specs.declared.error.ReportError.{ReportError}
+use Rattle.am_report.specs.ReportTexts.{refusal_text}
 
 -- why an input is refused
 pub data Reason : Type 0 where
@@ -23,6 +25,12 @@ pub data Reason : Type 0 where
   RecordFull : (number : ℕ) → Reason
   -- the domain has no node of the name that was asked for
   UnknownNode : Reason
+  -- its bytes are no report; where the rows end early, this names the flow of the row that is wanted
+  BadReport : (error : ReportError) (flow : List ℕ) → Reason
+  -- the node of this name has a report already
+  ReportTwice : (node : List ℕ) → Reason
+  -- no report is of the node of this name
+  NoReport : (node : List ℕ) → Reason
 
 -- what the inputs of a command come to, where nothing fails
 pub data Ending : Type 0 where
@@ -67,6 +75,9 @@ reason_text (BadDomain error) = domain_text error
 reason_text (NotInserted number error) = codes "record " ++ decimal number ++ codes ": " ++ insert_text error
 reason_text (RecordFull number) = codes "record " ++ decimal number ++ codes ": record full"
 reason_text UnknownNode = codes "unknown node"
+reason_text (BadReport error flow) = refusal_text error flow
+reason_text (ReportTwice node) = codes "second report of node " ++ node
+reason_text (NoReport node) = codes "no report of node " ++ node
 
 -- what stands before that: the file's name, and of a domain that was read whole the word `domain`
 abbrev pub subject : Option (List ℕ) → Reason → List ℕ

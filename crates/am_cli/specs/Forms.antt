@@ -7,6 +7,7 @@ use Rattle.am_cli.specs.commands.Check.{Check, SaysCheckWords, check_chain}
 use Rattle.am_cli.specs.commands.Clusters.{Clusters, SaysClustersWords, clusters_chain}
 use Rattle.am_cli.specs.commands.Meter.{Meter, SaysMeterWords, meter_chain}
 use Rattle.am_cli.specs.commands.Audit.{Audit, SaysAuditWords, audit_chain}
+use Rattle.am_cli.specs.commands.Loss.{Loss, SaysLossWords, loss_chain}
 use Rattle.am_cli.specs.commands.Mark.{mark_chain}
 use Rattle.am_cli.specs.commands.Strip.{strip_chain}
 use Rattle.am_cli.specs.WordForms.{DomainFile, SaysDomainFile}
@@ -31,6 +32,7 @@ pub data Kind : Type 0 where
   Stripping : Kind
   Metering : Kind
   Auditing : Kind
+  Gathering : Kind
 
 abbrev pub form : Kind → Form
 form Linking = record { verb = codes "link"; Asked = Link; says = SaysLinkWords; chain = link_chain }
@@ -41,6 +43,7 @@ form MarkingPackets = record { verb = codes "mark"; Asked = DomainFile; says = S
 form Stripping = record { verb = codes "strip"; Asked = DomainFile; says = SaysDomainFile; chain = strip_chain }
 form Metering = record { verb = codes "meter"; Asked = Meter; says = SaysMeterWords; chain = meter_chain }
 form Auditing = record { verb = codes "audit"; Asked = Audit; says = SaysAuditWords; chain = audit_chain }
+form Gathering = record { verb = codes "loss"; Asked = Loss; says = SaysLossWords; chain = loss_chain }
 
 -- a command of the program, and what it is asked
 pub record Command : Type 0 where

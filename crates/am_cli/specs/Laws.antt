@@ -8,8 +8,10 @@ use Rattle.am_pcap.specs.declared.head.Head.{Head}
 use Rattle.am_pcap.specs.Frames.{IsFramed}
 use Rattle.am_pcap.specs.declared.frame.Frame.{Frame}
 use Rattle.am_pcap.specs.declared.frame.LinkKind.{LinkKind}
+use Rattle.am_domain.specs.Domains.{DomainValue, IsLawful}
+use Rattle.am_report.specs.declared.read.Report.{Report}
 use Rattle.am_cli.specs.Answers.{Reason}
-use Rattle.am_cli.specs.Inputs.{JudgesCapture, JudgesDomain}
+use Rattle.am_cli.specs.Inputs.{JudgesCapture, JudgesDomain, JudgesReport}
 
 -- bytes of which something is taken aren't refused
 pub record Excludes {A : Type 0} (judge : List ℕ → Result A Reason → Type 0) : Type 0 where
@@ -41,4 +43,7 @@ pub record Laws : Type 0 where
   pub marks : (place : Place) → Excludes (JudgesCapture place)
   pub domain : Excludes JudgesDomain
   pub one_domain : IsOne JudgesDomain
+  pub lawful : (bytes : List ℕ) (d : DomainValue) → JudgesDomain bytes (Ok d) → IsLawful d
+  pub reports : (d : DomainValue) (taken : List Report) → IsLawful d → Excludes (JudgesReport d taken)
+  pub one_report : (d : DomainValue) (taken : List Report) → IsLawful d → IsOne (JudgesReport d taken)
   pub frames : AreOneFrame

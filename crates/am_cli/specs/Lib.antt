@@ -1,6 +1,7 @@
 pub mod Answers
 pub mod Chains
 pub mod WordForms
+pub mod Gathering
 pub mod Inputs
 pub mod Laws
 pub mod Tables
@@ -11,7 +12,10 @@ pub mod Showing
 pub mod Printing
 pub mod Checking
 pub mod NodeWords
+pub mod NodeCells
 pub mod Auditing
+pub mod Gathered
+pub mod Agreeing
 pub mod commands
 pub mod Rewriting
 pub mod Marking

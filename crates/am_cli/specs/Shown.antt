@@ -1,5 +1,5 @@
 -- What the program's own values say: a command, an answer.
-use Rattle.std.specs.Prelude.{◌≡◌, ◌⊎◌, ⊤, ℕ, List, Some, Result, Ok, Err, option_map, string_bytes}
+use Rattle.std.specs.Prelude.{◌≡◌, ◌⊎◌, ⊤, ℕ, List, Some, Result, Ok, Err, map, option_map, string_bytes}
 use Rattle.am_base.specs.declared.file.FileFault.{FileFault}
 use Rattle.am_base.specs.declared.file.FileFault.TheVariants as whole
 use Rattle.am_pcap.specs.declared.capture.FileError.{FileError}
@@ -8,6 +8,10 @@ use Rattle.am_meter.specs.declared.stream.MeterError.{MeterError}
 use Rattle.am_meter.specs.declared.stream.MeterError.TheVariants as meter
 use Rattle.am_domain.specs.declared.error.DomainError.{DomainError}
 use Rattle.am_domain.specs.declared.error.DomainError.TheVariants as domain
+use Rattle.am_domain.specs.Domains.{DomainValue}
+use Rattle.am_report.specs.declared.error.ReportError.{ReportError}
+use Rattle.am_report.specs.declared.error.ReportError.TheVariants as report
+use Rattle.am_report.specs.ReportTexts.{named_flow}
 use Rattle.am_cli.specs.Answers as said
 use Rattle.am_cli.specs.Answers.{Answer, Ending}
 use Rattle.am_cli.specs.Chains.{Inputs, Judged, Follows, StopsHere}
@@ -18,8 +22,9 @@ use Rattle.am_cli.specs.commands.Check as check
 use Rattle.am_cli.specs.commands.Clusters as clusters
 use Rattle.am_cli.specs.commands.Meter as metering
 use Rattle.am_cli.specs.commands.Audit as audit
+use Rattle.am_cli.specs.commands.Loss as loss
 use Rattle.am_cli.specs.declared.answer.Reason.{Reason}
-use Rattle.am_cli.specs.declared.answer.Reason.TheVariants.{TooLong, BadCapture, HeadersCut, BadDomain, NotInserted, RecordFull, UnknownNode}
+use Rattle.am_cli.specs.declared.answer.Reason.TheVariants.{TooLong, BadCapture, HeadersCut, BadDomain, NotInserted, RecordFull, UnknownNode, BadReport, ReportTwice, NoReport}
 use Rattle.am_cli.specs.declared.answer.Stop.{Stop}
 use Rattle.am_cli.specs.declared.answer.Unprinted.{Unprinted}
 use Rattle.am_cli.specs.declared.answer.Unprinted.TheVariants as unprinted
@@ -30,10 +35,11 @@ use Rattle.am_cli.specs.declared.commands.check.CheckWords.{CheckWords}
 use Rattle.am_cli.specs.declared.commands.clusters.ClustersWords.{ClustersWords}
 use Rattle.am_cli.specs.declared.commands.meter.MeterWords.{MeterWords}
 use Rattle.am_cli.specs.declared.commands.audit.AuditWords.{AuditWords}
+use Rattle.am_cli.specs.declared.commands.loss.LossWords.{LossWords}
 use Rattle.am_cli.specs.declared.words.DomainFileWords.{DomainFileWords}
 use Rattle.am_cli.specs.WordForms as form_of_words
 use Rattle.am_cli.specs.declared.commands.Command.{Command}
-use Rattle.am_cli.specs.declared.commands.Command.TheVariants.{Link as LinkCommand, Show as ShowCommand, Check as CheckCommand, Clusters as ClustersCommand, Mark as MarkCommand, Strip as StripCommand, Meter as MeterCommand, Audit as AuditCommand}
+use Rattle.am_cli.specs.declared.commands.Command.TheVariants.{Link as LinkCommand, Show as ShowCommand, Check as CheckCommand, Clusters as ClustersCommand, Mark as MarkCommand, Strip as StripCommand, Meter as MeterCommand, Audit as AuditCommand, Loss as LossCommand}
 
 -- what a `LinkWords` says
 abbrev pub link_shown : LinkWords → link.Link
@@ -65,6 +71,10 @@ meter_shown w = record { domain = w.domain.now; node = w.node.now }
 abbrev pub audit_shown : AuditWords → audit.Audit
 audit_shown w = record { file = w.file.now }
 
+-- what a `LossWords` says
+abbrev pub loss_shown : LossWords → loss.Loss
+loss_shown w = record { domain = w.domain.now; reports = map string_bytes w.reports.now }
+
 -- what a `DomainFileWords` says
 abbrev pub domain_file_shown : DomainFileWords → form_of_words.DomainFile
 domain_file_shown w = record { domain = w.domain.now; file = w.file.now }
@@ -79,6 +89,7 @@ command_shown (MarkCommand w) = record { kind = form.Kind.MarkingPackets; asked 
 command_shown (StripCommand w) = record { kind = form.Kind.Stripping; asked = domain_file_shown w }
 command_shown (MeterCommand w) = record { kind = form.Kind.Metering; asked = meter_shown w }
 command_shown (AuditCommand w) = record { kind = form.Kind.Auditing; asked = audit_shown w }
+command_shown (LossCommand w) = record { kind = form.Kind.Gathering; asked = loss_shown w }
 
 -- what a `Reason` says
 abbrev pub reason_shown : Reason → said.Reason
@@ -89,6 +100,9 @@ reason_shown (BadDomain error) = said.Reason.BadDomain error
 reason_shown (NotInserted number error) = said.Reason.NotInserted number error
 reason_shown (RecordFull number) = said.Reason.RecordFull number
 reason_shown UnknownNode = said.Reason.UnknownNode
+reason_shown (BadReport error flow) = said.Reason.BadReport error (string_bytes flow)
+reason_shown (ReportTwice node) = said.Reason.ReportTwice (string_bytes node)
+reason_shown (NoReport node) = said.Reason.NoReport (string_bytes node)
 
 -- what a `Stop` says
 abbrev pub stop_shown : Stop → Answer
@@ -142,6 +156,11 @@ record_answer name unprinted.NoMemory = said.Answer.NoMemory
 abbrev pub domain_answer : List ℕ → DomainError → Answer
 domain_answer name domain.Memory = said.Answer.NoMemory
 domain_answer name error = said.Answer.Ended (said.Ending.Refused (Some name) (said.Reason.BadDomain error))
+
+-- the answer where the bytes of this file are no report of the domain
+abbrev pub report_answer : List ℕ → DomainValue → ReportError → Answer
+report_answer name d report.Memory = said.Answer.NoMemory
+report_answer name d error = said.Answer.Ended (said.Ending.Refused (Some name) (said.Reason.BadReport error (named_flow d error)))
 
 -- what a function answers that takes the file of this name: a value that stands for what is taken of it, or a stop at it
 abbrev pub TakesInput :

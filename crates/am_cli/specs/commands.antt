@@ -6,3 +6,4 @@ pub mod Mark
 pub mod Strip
 pub mod Meter
 pub mod Audit
+pub mod Loss

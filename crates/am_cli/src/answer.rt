@@ -1,19 +1,21 @@
 //! Why a command stops, with which status, and the one line that it leaves on standard error.
 ghost use Rattle.std.specs.Prelude.{◌≡◌, ◌++◌, Some, None, IfOk, OnOk, option_map, string_bytes, codes, decimal};
+ghost use Rattle.am_report.specs.ReportTexts.{refusal_text};
 ghost use Rattle.am_cli.specs.Answers as said;
 ghost use Rattle.am_cli.specs.Answers.{said_of, refusal_line, subject, reason_text, line, status};
-ghost use Rattle.am_cli.specs.Shown.{reason_shown, stop_shown, IsAnswered, file_answer, capture_answer, stream_answer, record_answer, domain_answer};
+ghost use Rattle.am_cli.specs.Shown.{reason_shown, stop_shown, IsAnswered, file_answer, capture_answer, stream_answer, record_answer, domain_answer, report_answer};
 
 use am_base::FileFault;
-use am_domain::DomainError;
+use am_domain::{Domain, DomainError};
 use am_insert::InsertError;
 use am_meter::MeterError;
 use am_pcap::{CapError, FileError};
+use am_report::{Refusal, ReportError};
 use std::alloc::{AllocError, Global};
 use std::fmt::Write;
 
-/// Why an input is refused.
-#[derive(Clone, Copy, Debug)]
+/// Why an input is refused. Each owns the name that it tells.
+#[derive(Debug, Drop)]
 pub enum Reason {
     /// Its file has more bytes than its limit.
     TooLong,
@@ -29,10 +31,16 @@ pub enum Reason {
     RecordFull { number: u64 },
     /// The domain has no node of the name that was asked for.
     UnknownNode,
+    /// Its bytes are no report; where the rows end early, with the name of the flow of the row that is wanted.
+    BadReport { error: ReportError, flow: String },
+    /// The node of this name has a report already.
+    ReportTwice { node: String },
+    /// No report is of the node of this name.
+    NoReport { node: String },
 }
 
 /// Why a record of a capture isn't printed.
-#[derive(Clone, Copy, Debug)]
+#[derive(Debug, Drop)]
 pub enum Unprinted {
     /// It is refused.
     Refused { reason: Reason },
@@ -158,6 +166,46 @@ impl Stop {
         }
     }
 
+    /// The bytes of this file are no report of the domain.
+    pub fn of_report(alloc: Global, name: &str, domain: &Domain, error: ReportError) -> Stop
+        ensures { IsAnswered (report_answer name.now domain.now error) (stop_shown result) }
+    {
+        if let ReportError::Memory = error {
+            return Stop::NoMemory;
+        }
+        match String::from_str(alloc, error.named_flow(domain)) {
+            Ok(flow) => Stop::refused(alloc, name, Reason::BadReport { error, flow }),
+            Err(_) => Stop::NoMemory,
+        }
+    }
+
+    /// This file is a second report of the node of this name.
+    pub fn report_twice(alloc: Global, name: &str, node: &str) -> Stop
+        ensures { IsAnswered (said.Answer.Ended (said.Ending.Refused (Some name.now)
+            (said.Reason.ReportTwice node.now)))
+            (stop_shown result) }
+    {
+        match String::from_str(alloc, node) {
+            Ok(node) => Stop::refused(alloc, name, Reason::ReportTwice { node }),
+            Err(_) => Stop::NoMemory,
+        }
+    }
+
+    /// No report is of the node of this name.
+    pub fn no_report(alloc: Global, node: &str) -> Stop
+        ensures { IsAnswered (said.Answer.Ended (said.Ending.Refused None
+            (said.Reason.NoReport node.now)))
+            (stop_shown result) }
+    {
+        match String::from_str(alloc, node) {
+            Ok(node) => Stop::Refused {
+                name: None,
+                reason: Reason::NoReport { node },
+            },
+            Err(_) => Stop::NoMemory,
+        }
+    }
+
     /// The domain has no node of the name that was asked for.
     pub fn unknown_node() -> Stop
         ensures { stop_shown result
@@ -190,7 +238,7 @@ impl Stop {
         match self {
             Stop::NoCommand => String::from_str(alloc, "altmark: usage\n"),
             Stop::Missing { name } => said_of(alloc, name.as_str(), "missing"),
-            Stop::Refused { name, reason } => refused_line(alloc, name, *reason),
+            Stop::Refused { name, reason } => refused_line(alloc, name, reason),
             Stop::ReadFault { name } => said_of(alloc, name.as_str(), "read fault"),
             Stop::WriteFault => String::from_str(alloc, "altmark: write fault\n"),
             Stop::NoMemory => String::from_str(alloc, "altmark: out of memory\n"),
@@ -208,9 +256,9 @@ fn said_of(alloc: Global, name: &str, what: &str) -> Result<String, AllocError>
 }
 
 // The line of an input that is refused.
-fn refused_line(alloc: Global, name: &Option<String>, reason: Reason) -> Result<String, AllocError>
+fn refused_line(alloc: Global, name: &Option<String>, reason: &Reason) -> Result<String, AllocError>
     ensures { IfOk result (λ text. string_bytes text
-        ≡ refusal_line (option_map (λ n. string_bytes n) name.now) (reason_shown reason)) }
+        ≡ refusal_line (option_map (λ n. string_bytes n) name.now) (reason_shown reason.now)) }
 {
     let mut line = String::new(alloc);
     line.push_str("altmark: ")?;
@@ -221,9 +269,9 @@ fn refused_line(alloc: Global, name: &Option<String>, reason: Reason) -> Result<
 }
 
 // Adds what is refused: a file's name, or the word `domain`.
-fn push_subject(line: &mut String, name: &Option<String>, reason: Reason) -> Result<(), AllocError>
+fn push_subject(line: &mut String, name: &Option<String>, reason: &Reason) -> Result<(), AllocError>
     ensures { OnOk result (string_bytes line.new ≡ string_bytes line.old
-        ++ subject (option_map (λ n. string_bytes n) name.now) (reason_shown reason)) }
+        ++ subject (option_map (λ n. string_bytes n) name.now) (reason_shown reason.now)) }
 {
     let Some(name) = name else {
         return Ok(());
@@ -236,6 +284,9 @@ fn push_subject(line: &mut String, name: &Option<String>, reason: Reason) -> Res
         Reason::NotInserted { .. } => push_name(line, name.as_str()),
         Reason::RecordFull { .. } => push_name(line, name.as_str()),
         Reason::UnknownNode => push_name(line, name.as_str()),
+        Reason::BadReport { .. } => push_name(line, name.as_str()),
+        Reason::ReportTwice { .. } => push_name(line, name.as_str()),
+        Reason::NoReport { .. } => push_name(line, name.as_str()),
     }
 }
 
@@ -248,9 +299,9 @@ fn push_name(line: &mut String, name: &str) -> Result<(), AllocError>
 }
 
 // Adds why an input is refused.
-fn push_reason(line: &mut String, reason: Reason) -> Result<(), AllocError>
+fn push_reason(line: &mut String, reason: &Reason) -> Result<(), AllocError>
     ensures { OnOk result
-        (string_bytes line.new ≡ string_bytes line.old ++ reason_text (reason_shown reason)) }
+        (string_bytes line.new ≡ string_bytes line.old ++ reason_text (reason_shown reason.now)) }
 {
     match reason {
         Reason::TooLong => line.push_str("too long"),
@@ -260,5 +311,26 @@ fn push_reason(line: &mut String, reason: Reason) -> Result<(), AllocError>
         Reason::NotInserted { number, error } => write!(line, "record {number}: {error}"),
         Reason::RecordFull { number } => write!(line, "record {number}: record full"),
         Reason::UnknownNode => line.push_str("unknown node"),
+        Reason::BadReport { error, flow } => push_refusal(line, *error, flow.as_str()),
+        Reason::ReportTwice { node } => push_node(line, "second report of node ", node.as_str()),
+        Reason::NoReport { node } => push_node(line, "no report of node ", node.as_str()),
     }
+}
+
+// Adds why a report is refused.
+fn push_refusal(line: &mut String, error: ReportError, flow: &str) -> Result<(), AllocError>
+    ensures { OnOk result
+        (string_bytes line.new ≡ string_bytes line.old ++ refusal_text error flow.now) }
+{
+    let refusal = Refusal { error, flow };
+    write!(line, "{refusal}")
+}
+
+// Adds this of a node.
+fn push_node(line: &mut String, what: &str, node: &str) -> Result<(), AllocError>
+    ensures { OnOk result
+        (string_bytes line.new ≡ string_bytes line.old ++ (what.now ++ node.now)) }
+{
+    line.push_str(what)?;
+    line.push_str(node)
 }

@@ -11,6 +11,7 @@ mod audit;
 mod check;
 mod clusters;
 mod link;
+mod loss;
 mod mark;
 mod meter;
 mod show;
@@ -23,6 +24,7 @@ use audit::AuditWords;
 use check::CheckWords;
 use clusters::ClustersWords;
 use link::LinkWords;
+use loss::LossWords;
 use meter::MeterWords;
 use show::ShowWords;
 use std::alloc::Global;
@@ -46,6 +48,8 @@ pub enum Command<'a> {
     Meter(MeterWords<'a>),
     /// The loss table of a domain.
     Audit(AuditWords<'a>),
+    /// The same, from reports.
+    Loss(LossWords<'a>),
 }
 
 /// The command that the words are; none where they are no command.
@@ -113,6 +117,12 @@ fn command_named<'a>(verb: &str, words: &'a [String]) -> Option<Command<'a>>
         };
         return Some(Command::Audit(asked));
     }
+    if verb == "loss" {
+        let Some(asked) = loss::words_of(words) else {
+            return None;
+        };
+        return Some(Command::Loss(asked));
+    }
     None
 }
 
@@ -138,5 +148,6 @@ pub fn perform<S: Shelf, O: Sink>(
         Command::Strip(asked) => strip::strip(alloc, asked, shelf, out),
         Command::Meter(asked) => meter::meter(alloc, asked, shelf, out),
         Command::Audit(asked) => audit::audit(alloc, asked, shelf, out),
+        Command::Loss(asked) => loss::loss(alloc, asked, shelf, out),
     }
 }

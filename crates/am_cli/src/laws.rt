@@ -1,14 +1,17 @@
 //! What is known of commands, whatever their inputs are: laws, each the contract of a function that does nothing.
+ghost use Rattle.am_cli.specs.Agreeing.{LossIsAudit};
 ghost use Rattle.am_cli.specs.Auditing.{ReportsIgnoreWorkers, TablesIgnoreWorkers};
 ghost use Rattle.am_cli.specs.Laws.{Laws};
 ghost use Rattle.am_cli.specs.Undoing.{StripUndoesMark, RunsUndo};
 
+use am_cells::cells_law;
 use am_domain::domain_law;
 use am_insert::{address_law, insert_law, open_law, strip_law};
 use am_meter::marks_are_one;
 use am_pcap::{beginnings_agree, captures_are_one, captures_are_spelled, frames_are_one};
+use am_report::report_law;
 
-/// What is taken of a capture or a domain file excludes a refusal of the same bytes.
+/// What is taken of a capture, a domain file or a report excludes a refusal of the same bytes.
 pub fn laws()
     ensures { Laws }
 {
@@ -16,6 +19,7 @@ pub fn laws()
     beginnings_agree();
     marks_are_one();
     domain_law();
+    report_law();
     frames_are_one();
 }
 
@@ -40,3 +44,12 @@ pub fn workers_change_nothing()
     ensures reports { ReportsIgnoreWorkers }
     ensures tables { TablesIgnoreWorkers }
 {}
+
+/// Over the reports that `meter` prints of all nodes of a domain, in any order, `loss` prints what `audit` prints over
+/// their captures.
+pub fn loss_is_audit()
+    ensures { LossIsAudit }
+{
+    cells_law();
+    report_law();
+}

@@ -8,6 +8,7 @@ mod audit;
 mod check;
 mod clusters;
 mod link;
+mod loss;
 mod mark;
 mod meter;
 mod show;

@@ -6,12 +6,12 @@ use Rattle.am_control.specs.Rows.{no_table}
 use Rattle.am_control.specs.Texts.{loss_text}
 use Rattle.am_domain.specs.Domains.{DomainValue}
 use Rattle.am_domain.specs.Values.{NodeValue}
-use Rattle.am_meter.specs.Metering.{AreMetered}
 use Rattle.am_meter.specs.declared.stream.Marked.{Marked}
 use Rattle.am_cli.specs.Answers.Ending.{Done}
 use Rattle.am_cli.specs.Chains.{Chain}
 use Rattle.am_cli.specs.Chains.Chain.{Reads, Writes}
 use Rattle.am_cli.specs.Inputs.{JudgesCapture, JudgesDomain}
+use Rattle.am_cli.specs.NodeCells.{AreCellsOf}
 use Rattle.am_cli.specs.WordForms.{IsFileName}
 
 -- what it is asked: the domain file that names the captures
@@ -26,7 +26,7 @@ pub record SaysAuditWords (words : List (List ℕ)) (a : Audit) : Type 0 where
 -- the first so many nodes have these cells, each over its own of these lists of marked records
 pub record HaveCells (d : DomainValue) (count : ℕ) (taken : List (List Marked)) (cells : List CellTable) : Type 0 where
   pub each : length cells ≡ count
-  pub metered : (node : ℕ) → node < count → AreMetered d node (slice_index_or taken node []) (slice_index_or cells node no_table)
+  pub metered : (node : ℕ) → node < count → AreCellsOf d node (slice_index_or taken node []) (slice_index_or cells node no_table)
 
 -- the loss table of a domain, of whose nodes' captures these are the marked records, node by node: each row is what the cells
 -- of its scope's nodes come to (RFC 9341, section 3.1; RFC 9342, sections 4 and 5)

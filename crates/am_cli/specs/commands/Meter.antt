@@ -2,13 +2,13 @@
 use Rattle.std.specs.Prelude.{◌≡◌, ℕ, List, [], ◌∷◌}
 use Rattle.am_cells.specs.CellTables.{CellTable}
 use Rattle.am_domain.specs.Domains.{DomainValue}
-use Rattle.am_meter.specs.Metering.{AreMetered}
 use Rattle.am_meter.specs.MeteredFiles.{capture_of}
 use Rattle.am_meter.specs.declared.stream.Marked.{Marked}
 use Rattle.am_report.specs.Rows.{report_text}
 use Rattle.am_cli.specs.Chains.{Chain}
 use Rattle.am_cli.specs.Chains.Chain.{Reads, Prints}
 use Rattle.am_cli.specs.Inputs.{JudgesCapture, JudgesDomain}
+use Rattle.am_cli.specs.NodeCells.{AreCellsOf}
 use Rattle.am_cli.specs.NodeWords.{at_node, node_named}
 use Rattle.am_cli.specs.WordForms.{IsFileName}
 
@@ -25,7 +25,7 @@ pub record SaysMeterWords (words : List (List ℕ)) (m : Meter) : Type 0 where
 -- the report of a node, of whose capture these are the marked records
 pub record IsNodeReport (d : DomainValue) (node : ℕ) (ms : List Marked) (text : List ℕ) : Type 0 where
   pub cells : CellTable
-  pub metered : AreMetered d node ms cells
+  pub metered : AreCellsOf d node ms cells
   pub printed : text ≡ report_text d node cells
 
 -- the node's capture is taken whole, and its report is printed

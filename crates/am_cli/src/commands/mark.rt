@@ -123,9 +123,7 @@ fn mark_record(
         Ok(()) => {}
         Err(_) => return Err(Unprinted::NoMemory),
     }
-    if newest <= block {
-        state.newest[flow] = block + 1;
-    }
+    state.newest[flow] = newest.max(block + 1);
     Ok(())
 }
 

@@ -9,7 +9,7 @@ const AUDIT: [&str; 2] = ["audit", "two.toml"];
 const COLUMNS: &str = "scope,flow,block,in,out,lost,delay,din,dout,ddelay\n";
 
 // Each packet takes half a millisecond; the second of block 1 is lost.
-const TABLE: &str = "scope,flow,block,in,out,lost,delay,din,dout,ddelay
+pub const TABLE: &str = "scope,flow,block,in,out,lost,delay,din,dout,ddelay
 0,voice,0,2,2,0,1000000,1,1,500000
 0,voice,1,3,2,1,-,1,1,500000
 0,voice,2,1,1,0,500000,1,1,500000

@@ -6,7 +6,7 @@ use std::test::Fail;
 const METER: [&str; 3] = ["meter", "two.toml", "a"];
 
 // The report of the first point: sums and offsets of a block count from half a block before it, or from 0.
-const REPORT: &str = "version,node,flow,block,count,sum,dcount,dsum
+pub const REPORT: &str = "version,node,flow,block,count,sum,dcount,dsum
 1,a,voice,0,2,3000000000,1,1000000000
 1,a,voice,1,3,21000000000,1,6000000000
 1,a,voice,2,1,6000000000,1,6000000000

@@ -7,9 +7,11 @@ const USAGE: Wanted<'static> = (2, "", "altmark: usage\n");
 #[test]
 fn knows_no_other_commands(rt: HostRuntime) -> Result<(), Fail> {
     let alloc = rt.alloc();
-    let rows: [&[&str]; 23] = [
+    let rows: [&[&str]; 25] = [
         &[],
         &["audit"],
+        &["loss", "a"],
+        &["loss", "a", "b", ""],
         &["Link", "10", "0", "1", "a", "b"],
         &["link"],
         &["link", "10", "0", "1", "a", "b", "c"],

@@ -1,5 +1,5 @@
 use Rattle.std.proofs.Common.{◌≡◌, rules, codes}
-use Rattle.am_cli.specs.Forms.Kind.{Linking, Showing, Checking, Clustering, MarkingPackets, Stripping, Metering, Auditing}
+use Rattle.am_cli.specs.Forms.Kind.{Linking, Showing, Checking, Clustering, MarkingPackets, Stripping, Metering, Auditing, Gathering}
 use Rattle.am_cli.proofs.FormLemmas.{none-named}
 use Rattle.am_cli.proofs.commands.command_named.Goals as goal
 
@@ -34,3 +34,7 @@ returns-in_default-words_of-4-clause-none c =
 pub returns-in_default-words_of-5-clause-none : goal.returns-in_default-words_of-5-clause-none
 returns-in_default-words_of-5-clause-none c =
     let verb : c.args.verb.now ≡ codes "audit" = search rules in none-named Auditing c.args.verb.now _ verb c.in_default-words_of-5.ensures.none
+
+pub returns-in_default-words_of-6-clause-none : goal.returns-in_default-words_of-6-clause-none
+returns-in_default-words_of-6-clause-none c =
+    let verb : c.args.verb.now ≡ codes "loss" = search rules in none-named Gathering c.args.verb.now _ verb c.in_default-words_of-6.ensures.none

@@ -76,3 +76,12 @@ returns-in-Audit g c =
     (output (g.O.Sink.written c.args.out.now) (g.O.Sink.faults c.args.out.now)) (output (g.O.Sink.written c.audit.new.out) (g.O.Sink.faults c.audit.new.out))
     (chain_of (command_shown x)) (answer_of c.audit.result))
     (sym c.in-Audit.is) c.audit.ensures
+
+pub returns-in-Loss : goal.returns-in-Loss
+returns-in-Loss g c =
+    subst
+    (λ x. Performs (inputs (g.S.Shelf.told c.args.shelf.now) (g.S.Shelf.faults c.args.shelf.now) (g.S.Shelf.missed c.args.shelf.now))
+    (inputs (g.S.Shelf.told c.loss.new.shelf) (g.S.Shelf.faults c.loss.new.shelf) (g.S.Shelf.missed c.loss.new.shelf))
+    (output (g.O.Sink.written c.args.out.now) (g.O.Sink.faults c.args.out.now)) (output (g.O.Sink.written c.loss.new.out) (g.O.Sink.faults c.loss.new.out))
+    (chain_of (command_shown x)) (answer_of c.loss.result))
+    (sym c.in-Loss.is) c.loss.ensures

@@ -1,4 +1,4 @@
-use Rattle.am_cli.proofs.InputLemmas.{whole-begins, domain-excludes}
+use Rattle.am_cli.proofs.InputLemmas.{whole-begins, domain-excludes, report-excludes}
 use Rattle.am_cli.proofs.laws.laws.Goals as goal
 
 pub returns : goal.returns
@@ -13,5 +13,11 @@ returns c = record {
   marks = λ place. record { never = λ bytes ms reason taken refused. c.marks_are_one.ensures.not_refused place bytes ms refused.0 taken refused.1 };
   domain = record { never = domain-excludes c.domain_law.ensures.either };
   one_domain = record { same = λ bytes d e one other. c.domain_law.ensures.domain bytes d e one.1 other.1 };
+  lawful = λ bytes d so. c.domain_law.ensures.lawful bytes d so.1;
+  reports = λ d taken lawful. record {
+    never = report-excludes d taken (λ bytes a b p q. c.report_law.ensures.report d bytes a b lawful p q)
+        (λ bytes r e p q. c.report_law.ensures.either d bytes r e lawful p q);
+  };
+  one_report = λ d taken lawful. record { same = λ bytes r s one other. c.report_law.ensures.report d bytes r s lawful one.1 other.1 };
   frames = c.frames_are_one.ensures;
 }
