@@ -1,13 +1,13 @@
 -- Each pass of a timed world belongs to the block that its packet was sent in, and to no other.
-use Rattle.std.proofs.Common.{◌≡◌, ◌∙◌, ℕ, zero, suc, ◌+◌, ◌-◌, ◌*◌, ◌/◌, ◌%◌, ◌<◌, ◌≤◌, Bool, true, false, eqb, ◌&&◌, List, [], ◌∷◌, length, refl, sym, ap, subst, arith, inl, inr}
+use Rattle.std.proofs.Common.{◌≡◌, ◌∙◌, ℕ, zero, suc, ◌+◌, ◌*◌, ◌%◌, ◌<◌, ◌≤◌, Bool, true, false, eqb, List, [], ◌∷◌, length, refl, sym, ap, subst, arith, inl, inr}
 use Rattle.std.specs.Prelude.{⊤, All, Contains, IsTrue, ◌↔◌, ◌⊎◌}
 use Rattle.std.proofs.lemmas.Bool.{eqb-true, eq-eqb}
 use Rattle.std.proofs.lemmas.List.Elements.{All-nil, All-cons, All-contains}
 use Rattle.am_clock.specs.Times.{Times, half, guard, IsTiming, parity, belongs_to}
 use Rattle.am_domain.specs.declared.link.Edge.{Edge}
-use Rattle.am_domain.specs.Network.{has_links_in, shift_at}
-use Rattle.am_domain.specs.Domains.{DomainValue, IsLawful}
-use Rattle.am_graph.specs.Graphs.{start_of, end_of}
+use Rattle.am_domain.specs.Network.{has_links_in}
+use Rattle.am_domain.specs.Domains.{DomainValue}
+use Rattle.am_graph.specs.Graphs.{end_of}
 use Rattle.am_meter.specs.Metering.{node_shift}
 use Rattle.am_world.specs.declared.event.Event.{Event}
 use Rattle.am_world.specs.declared.event.Event.TheVariants.{Send, Hop, Lost}

@@ -1,31 +1,28 @@
 -- The delay of a cluster's cells is how long the packets took over its links, but for the skew.
-use Rattle.std.proofs.Common.{◌≡◌, ◌∙◌, ℕ, zero, suc, ◌+◌, ◌-◌, ◌*◌, ◌%◌, ◌<◌, ◌≤◌, Bool, true, false, cond, eqb, ◌&&◌, List, [], ◌∷◌, length, refl, sym, ap, subst, arith, inl, inr}
-use Rattle.std.specs.Prelude.{Contains, sum_by, count_by, filter, slice_index_or, ℤ, pos, ◌+ℤ◌, ◌-ℤ◌, All, IfSome}
+use Rattle.std.proofs.Common.{◌≡◌, ◌∙◌, ℕ, ◌+◌, ◌*◌, ◌%◌, ◌<◌, ◌≤◌, Bool, true, cond, eqb, ◌&&◌, List, [], ◌∷◌, length, refl, sym, ap, subst, arith, inl, inr}
+use Rattle.std.specs.Prelude.{Contains, sum_by, count_by, filter, slice_index_or, pos, ◌-ℤ◌, IfSome}
 use Rattle.std.proofs.lemmas.Bool.{cases_Bool, eqb-true, and_parts}
 use Rattle.std.proofs.lemmas.Bool.Decides.{nat_tests}
 use Rattle.std.proofs.lemmas.Int.{ints}
 use Rattle.std.proofs.lemmas.List.Sums.{sum_by-cons}
-use Rattle.am_clock.specs.Times.{Times, half, in_window, parity}
+use Rattle.am_clock.specs.Times.{Times, in_window, parity}
 use Rattle.am_domain.specs.Values.{FlowValue}
-use Rattle.am_domain.specs.Network.{has_links_in}
 use Rattle.am_domain.specs.Domains.{DomainValue, IsLawful, Reports}
 use Rattle.am_graph.specs.Lists.{Ascends, list_at}
-use Rattle.am_graph.specs.Graphs.{graph_of, start_of, end_of}
-use Rattle.am_graph.specs.Clusters.{ClustersValue, AreClusters, count_of}
+use Rattle.am_graph.specs.Clusters.{count_of}
 use Rattle.am_cells.specs.declared.cell.Cell.{Cell}
 use Rattle.am_meter.specs.declared.stream.Marked.{Marked}
 use Rattle.am_meter.specs.Metering.{counts_in, delays_in, node_shift, origin, offset_in, cell_of}
 use Rattle.am_control.specs.declared.row.Scope.TheVariants.{Cluster}
-use Rattle.am_control.specs.Plans.{LossPlan, IsPlanOf}
+use Rattle.am_control.specs.Plans.{IsPlanOf}
 use Rattle.am_control.specs.Rows.{Measured, node_cell, side_cell, loss_row}
 use Rattle.am_world.specs.declared.event.Event.{Event}
-use Rattle.am_world.specs.Events.{event_packet, event_reading, events_of}
-use Rattle.am_world.specs.Worlds.{IsValid}
+use Rattle.am_world.specs.Events.{event_reading}
 use Rattle.am_world.specs.Passes.{passes_sent, sends, sends_delayed, is_sent}
-use Rattle.am_world.specs.Drops.{is_among, is_start, is_end, is_inside, hops_over, hopped_over, dropped_in, dropped_at}
+use Rattle.am_world.specs.Drops.{is_among, is_start, is_end, is_inside, hops_over, hopped_over, dropped_at}
 use Rattle.am_world.specs.Laws.{AreAttributed}
 use Rattle.am_world.specs.Losses.{AreRecorded, IsCountedFrom}
-use Rattle.am_world.specs.Delays.{DifferByAtMost, TellsDelays, total_over}
+use Rattle.am_world.specs.Delays.{DifferByAtMost, total_over}
 use Rattle.am_world.proofs.SumLemmas.{sum-both, sum-same, sum-passing, weigh-one}
 use Rattle.am_world.proofs.JourneyLemmas.{IsOfSends}
 use Rattle.am_world.proofs.ClusterLemmas.{cluster-sides, entry-no-end}
@@ -34,7 +31,7 @@ use Rattle.am_world.proofs.AttributionLemmas.{attributed}
 use Rattle.am_world.proofs.CountingLemmas.{counted-all, counted-delayed}
 use Rattle.am_world.proofs.LawLemmas.{sends-only, delayed-only}
 use Rattle.am_world.proofs.DropLemmas.{passed-side, none-waits}
-use Rattle.am_world.proofs.DelayLemmas.{hopped_at, before_at, all-close, total-over-is}
+use Rattle.am_world.proofs.DelayLemmas.{all-close, total-over-is}
 
 -- a product of a sum
 sum-times : {X : Type 0} (f : X → ℕ) (n : ℕ) (xs : List X) → sum_by (λ x. f x * n) xs ≡ sum_by f xs * n

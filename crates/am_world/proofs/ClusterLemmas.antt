@@ -1,14 +1,14 @@
 -- Starts and ends of a cluster: a link is of the cluster exactly where it begins at a start, and where it ends at an end.
-use Rattle.std.proofs.Common.{◌≡◌, ◌≢◌, ◌∙◌, ℕ, zero, suc, ◌<◌, Bool, true, false, eqb, List, [], ◌∷◌, length, get_or, refl, sym, ap, arith, inl, inr}
+use Rattle.std.proofs.Common.{◌≡◌, ◌∙◌, ℕ, zero, suc, ◌<◌, Bool, true, false, eqb, List, [], ◌∷◌, length, get_or, refl, sym, arith, inl, inr}
 use Rattle.std.specs.Prelude.{Contains}
 use Rattle.std.specs.List.{list_any}
-use Rattle.std.proofs.lemmas.Bool.{false≢true, eqb-true, eq-eqb, cases_Bool, false_from_ne_true, or_cases, or_left, or_right}
+use Rattle.std.proofs.lemmas.Bool.{false≢true, eqb-true, eq-eqb, false_from_ne_true, or_cases, or_left, or_right}
 use Rattle.am_domain.specs.declared.link.Edge.{Edge}
 use Rattle.am_domain.specs.Network.{has_links_in, has_links_out}
 use Rattle.am_domain.specs.Domains.{DomainValue}
 use Rattle.am_graph.specs.Lists.{list_at}
-use Rattle.am_graph.specs.Graphs.{GraphValue, graph_of, start_of, end_of}
-use Rattle.am_graph.specs.Clusters.{ClustersValue, AreClusters, IsOf, IsStart, IsEnd, count_of, cluster_of}
+use Rattle.am_graph.specs.Graphs.{graph_of, start_of, end_of}
+use Rattle.am_graph.specs.Clusters.{ClustersValue, AreClusters, count_of, cluster_of}
 use Rattle.am_world.specs.Drops.{is_among, is_start, is_end, is_inside}
 use Rattle.am_world.proofs.JourneyLemmas.{AreSides}
 

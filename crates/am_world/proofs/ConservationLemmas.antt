@@ -1,8 +1,8 @@
 -- Packets of a cluster are conserved: what passed its starts hopped over its links, was dropped there, or waits there.
-use Rattle.std.proofs.Common.{◌≡◌, ◌∙◌, ℕ, ◌+◌, ◌<◌, Bool, true, false, cond, eqb, ◌&&◌, ◌||◌, List, [], ◌∷◌, ◌++◌, length, get_or, take, drop, Option, Some, None, refl, sym, ap, subst, arith, inl, inr}
-use Rattle.std.specs.Prelude.{sum_by, count_by, filter, not, Contains}
+use Rattle.std.proofs.Common.{◌≡◌, ◌∙◌, ℕ, ◌+◌, Bool, true, false, cond, eqb, ◌&&◌, ◌||◌, List, [], ◌∷◌, Some, refl, sym, ap, arith}
+use Rattle.std.specs.Prelude.{sum_by, not}
 use Rattle.std.specs.List.{list_any, range_with_len}
-use Rattle.std.proofs.lemmas.Bool.{cases_Bool, eqb-true}
+use Rattle.std.proofs.lemmas.Bool.{eqb-true}
 use Rattle.std.proofs.lemmas.List.Sums.{sum_by-cons}
 use Rattle.am_domain.specs.declared.link.Edge.{Edge}
 use Rattle.am_domain.specs.Network.{has_links_in}
@@ -10,12 +10,12 @@ use Rattle.am_domain.specs.Domains.{DomainValue}
 use Rattle.am_graph.specs.Graphs.{end_of}
 use Rattle.am_world.specs.declared.event.Event.{Event}
 use Rattle.am_world.specs.declared.event.Event.TheVariants.{Send, Hop, Lost}
-use Rattle.am_world.specs.Events.{event_packet, events_of, is_lost, node_after, present}
+use Rattle.am_world.specs.Events.{event_packet, events_of, is_lost, node_after}
 use Rattle.am_world.specs.Worlds.{Travels, IsJourney, AreJourneys}
-use Rattle.am_world.specs.Passes.{passes, is_sent, passed_at}
+use Rattle.am_world.specs.Passes.{passes, passed_at}
 use Rattle.am_world.specs.Drops.{is_at, is_dropped, is_waiting, dropped_at, waiting_at, hops_over, hopped_over}
 use Rattle.am_world.proofs.SumLemmas.{weigh, sum-both, sum-same, sum-none, sum-keys, sum-passing, item-le-sum, from-filter}
-use Rattle.am_world.proofs.JourneyLemmas.{IsOfSends, AreSides, travels-unsent, last_pass, hop_sum, starts-on, ends-on, hops-are}
+use Rattle.am_world.proofs.JourneyLemmas.{IsOfSends, AreSides, travels-unsent, hop_sum, starts-on, ends-on, hops-are}
 
 -- a number above the packets of all events
 pub packet_end : List Event → ℕ

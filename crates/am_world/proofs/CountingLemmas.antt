@@ -1,20 +1,20 @@
 -- What the capture of a node counts of a reported block: the packets that were sent in it and passed the node.
-use Rattle.std.proofs.Common.{◌≡◌, ◌≢◌, ◌∙◌, ℕ, zero, suc, ◌+◌, ◌%◌, ◌<◌, ◌≤◌, Bool, true, false, cond, eqb, ◌&&◌, List, [], ◌∷◌, length, refl, sym, ap, subst, arith, inl, inr}
+use Rattle.std.proofs.Common.{◌≡◌, ◌≢◌, ◌∙◌, ℕ, ◌+◌, ◌%◌, ◌<◌, Bool, true, false, cond, eqb, ◌&&◌, List, [], ◌∷◌, length, refl, sym, ap, subst, arith, inl, inr}
 use Rattle.std.specs.Prelude.{All, Contains, IsTrue, ◌↔◌, ◌⊎◌, sum_by, count_by, slice_index_or}
 use Rattle.std.specs.List.{list_any}
-use Rattle.std.proofs.lemmas.Bool.{false≢true, eqb-true, eq-eqb, cases_Bool, and_parts, and_from, and_right, false_from_ne_true}
+use Rattle.std.proofs.lemmas.Bool.{false≢true, eqb-true, eq-eqb, cases_Bool, and_parts, and_from, and_right}
 use Rattle.std.proofs.lemmas.Bool.Decides.{nat_tests}
 use Rattle.std.proofs.lemmas.List.Elements.{All-contains}
-use Rattle.am_clock.specs.Times.{Times, half, IsTiming, parity, in_window, belongs_to}
-use Rattle.am_domain.specs.Values.{FlowValue, NodeValue}
+use Rattle.am_clock.specs.Times.{Times, parity, in_window, belongs_to}
+use Rattle.am_domain.specs.Values.{FlowValue}
 use Rattle.am_domain.specs.Domains.{DomainValue, IsLawful, Reports}
 use Rattle.am_meter.specs.declared.stream.Marked.{Marked}
 use Rattle.am_meter.specs.Metering.{counts_in, delays_in, node_shift}
 use Rattle.am_world.specs.declared.event.Event.{Event}
 use Rattle.am_world.specs.declared.event.Event.TheVariants.{Send, Hop, Lost}
 use Rattle.am_world.specs.Events.{event_packet, event_reading, events_of}
-use Rattle.am_world.specs.Worlds.{Travels, IsJourney, AreJourneys}
-use Rattle.am_world.specs.Passes.{passes, block_at, sends, sends_delayed, sends_marked, is_bit, is_sent, passes_sent, is_marked_so, passes_so, IsInSpan, Records}
+use Rattle.am_world.specs.Worlds.{IsJourney, AreJourneys}
+use Rattle.am_world.specs.Passes.{passes, block_at, sends, sends_delayed, sends_marked, is_bit, passes_sent, is_marked_so, passes_so, IsInSpan, Records}
 use Rattle.am_world.specs.Laws.{IsAttributed, AreAttributed}
 use Rattle.am_world.proofs.SumLemmas.{sum-both, sum-same, sum-none, same-by-keys, from-filter}
 use Rattle.am_world.proofs.JourneyLemmas.{IsOfSends, travels-unsent}

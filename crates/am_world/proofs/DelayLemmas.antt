@@ -1,6 +1,6 @@
 -- How long the packets took over the links of a cluster, by the clocks of its sides.
-use Rattle.std.proofs.Common.{◌≡◌, ◌∙◌, ℕ, zero, suc, ◌+◌, ◌-◌, ◌*◌, ◌<◌, ◌≤◌, Bool, true, false, cond, eqb, ◌&&◌, List, [], ◌∷◌, length, Option, Some, None, refl, sym, ap, subst, arith, inl, inr}
-use Rattle.std.specs.Prelude.{Contains, sum_by, count_by, map, fold, not, ℤ, pos, ◌+ℤ◌, ◌-ℤ◌, All}
+use Rattle.std.proofs.Common.{◌≡◌, ◌∙◌, ℕ, suc, ◌+◌, ◌≤◌, Bool, true, false, cond, eqb, ◌&&◌, List, [], ◌∷◌, Some, refl, sym, ap, arith, inl, inr}
+use Rattle.std.specs.Prelude.{Contains, sum_by, map, fold, not, ℤ, pos, ◌+ℤ◌, ◌-ℤ◌, All}
 use Rattle.std.specs.List.{list_any, range_with_len}
 use Rattle.std.proofs.lemmas.Bool.{cases_Bool}
 use Rattle.std.proofs.lemmas.Int.{ints}
@@ -17,8 +17,8 @@ use Rattle.am_world.specs.Events.{event_packet, event_time, event_reading, event
 use Rattle.am_world.specs.Worlds.{Travels, IsJourney, AreJourneys, IsNear, IsOnTime}
 use Rattle.am_world.specs.Passes.{passes, passes_sent, is_sent}
 use Rattle.am_world.specs.Drops.{is_at, is_dropped, is_waiting, dropped_at, waiting_at, hops_over}
-use Rattle.am_world.specs.Delays.{signed_sum, time_over, total_over}
-use Rattle.am_world.proofs.SumLemmas.{weigh, sum-both, sum-same, sum-none, item-le-sum, from-filter}
+use Rattle.am_world.specs.Delays.{time_over, total_over}
+use Rattle.am_world.proofs.SumLemmas.{weigh, sum-both, item-le-sum, from-filter}
 use Rattle.am_world.proofs.JourneyLemmas.{IsOfSends, AreSides, travels-unsent, last_pass, hop_sum, starts-on, ends-on, hops-are}
 use Rattle.am_world.proofs.ConservationLemmas.{packet_end, packet-by-packet, weigh-and, or-none}
 

@@ -1,35 +1,33 @@
 -- The loss that a table tells is the number of packets dropped.
-use Rattle.std.proofs.Common.{◌≡◌, ◌∙◌, ℕ, zero, suc, ◌+◌, ◌<◌, ◌≤◌, Bool, true, false, cond, eqb, ◌&&◌, List, [], ◌∷◌, length, get_or, Option, Some, None, refl, sym, ap, subst, arith, inl, inr}
-use Rattle.std.specs.Prelude.{Contains, sum_by, count_by, slice_index_or, map, fold, not, ℤ, pos, ◌+ℤ◌, ◌-ℤ◌}
+use Rattle.std.proofs.Common.{◌≡◌, ◌∙◌, ℕ, suc, ◌+◌, ◌<◌, Bool, true, false, cond, eqb, ◌&&◌, List, [], ◌∷◌, length, get_or, Option, Some, None, refl, sym, ap, subst, arith, inl, inr}
+use Rattle.std.specs.Prelude.{Contains, sum_by, map, fold, not, ℤ, pos, ◌+ℤ◌}
 use Rattle.std.specs.List.{list_any, range_with_len}
-use Rattle.std.proofs.lemmas.Bool.{false≢true, eqb-true, eq-eqb, ne_eqb, cases_Bool, and_parts, and_left, and_right, false_from_ne_true}
+use Rattle.std.proofs.lemmas.Bool.{false≢true, eqb-true, eq-eqb, ne_eqb, cases_Bool, and_parts, and_right, false_from_ne_true}
 use Rattle.std.proofs.lemmas.Int.{ints}
 use Rattle.std.proofs.lemmas.List.{get_or_default}
 use Rattle.std.proofs.lemmas.List.FromFn.{length-range_with_len, get_or-range_with_len}
 use Rattle.std.proofs.lemmas.List.Sums.{sum_by-cons}
 use Rattle.am_domain.specs.declared.link.Edge.{Edge}
 use Rattle.am_domain.specs.Values.{FlowValue}
-use Rattle.am_domain.specs.Network.{has_links_out}
 use Rattle.am_domain.specs.Domains.{DomainValue, IsLawful, Reports}
 use Rattle.am_graph.specs.Lists.{Ascends, list_at}
 use Rattle.am_graph.specs.Graphs.{graph_of, start_of, end_of}
 use Rattle.am_graph.specs.Clusters.{ClustersValue, AreClusters, count_of}
 use Rattle.am_cells.specs.declared.cell.Cell.{Cell}
 use Rattle.am_meter.specs.declared.stream.Marked.{Marked}
-use Rattle.am_meter.specs.Metering.{counts_in, node_shift}
 use Rattle.am_control.specs.declared.row.Scope.TheVariants.{Cluster, Network}
-use Rattle.am_control.specs.Plans.{LossPlan, IsPlanOf}
+use Rattle.am_control.specs.Plans.{IsPlanOf}
 use Rattle.am_control.specs.Rows.{Measured, node_cell, side_cell, loss_row, lost_in, lost_in_clusters}
 use Rattle.am_world.specs.declared.event.Event.{Event}
 use Rattle.am_world.specs.declared.event.Event.TheVariants.{Send, Hop, Lost}
 use Rattle.am_world.specs.Events.{event_packet, events_of, is_lost, present}
-use Rattle.am_world.specs.Worlds.{IsOver, IsValid}
-use Rattle.am_world.specs.Passes.{passes, passes_sent, is_sent, passed_at, sends, Records}
-use Rattle.am_world.specs.Drops.{is_among, is_start, is_end, is_inside, is_at, is_waiting, waiting_at, dropped_in, dropped_in_all, hopped_over}
-use Rattle.am_world.specs.Laws.{AreAttributed, AreConserved}
-use Rattle.am_world.specs.Losses.{AreRecorded, IsCountedFrom, TellsDrops}
-use Rattle.am_world.proofs.SumLemmas.{sum-both, sum-same, sum-none, sum-turned}
-use Rattle.am_world.proofs.ClusterLemmas.{from-among, among-from, start-leads-on}
+use Rattle.am_world.specs.Worlds.{IsOver}
+use Rattle.am_world.specs.Passes.{passes, passes_sent, is_sent, passed_at, sends}
+use Rattle.am_world.specs.Drops.{is_among, is_start, is_at, is_waiting, waiting_at, dropped_in, dropped_in_all}
+use Rattle.am_world.specs.Laws.{AreAttributed}
+use Rattle.am_world.specs.Losses.{AreRecorded, IsCountedFrom}
+use Rattle.am_world.proofs.SumLemmas.{sum-same, sum-none, sum-turned}
+use Rattle.am_world.proofs.ClusterLemmas.{from-among, start-leads-on}
 use Rattle.am_world.proofs.AttributionLemmas.{attributed}
 use Rattle.am_world.proofs.CountingLemmas.{counted-all}
 use Rattle.am_world.proofs.LawLemmas.{conserved}

@@ -1,17 +1,15 @@
 -- The events of one packet: it is sent once, and then passes the starts and the ends of a cluster in turn.
-use Rattle.std.proofs.Common.{◌≡◌, ◌∙◌, ℕ, ◌+◌, ◌<◌, Bool, true, false, cond, eqb, ◌&&◌, List, [], ◌∷◌, ◌++◌, length, Option, Some, None, refl, sym, ap, subst, arith, inl, inr}
-use Rattle.std.specs.Prelude.{⊤, sum_by, count_by, not, Contains}
+use Rattle.std.proofs.Common.{◌≡◌, ◌∙◌, ℕ, ◌+◌, ◌<◌, Bool, false, cond, eqb, List, [], ◌∷◌, ◌++◌, length, Some, refl, sym, ap, subst, arith}
 use Rattle.std.specs.List.{list_any}
-use Rattle.std.proofs.lemmas.Bool.{cases_Bool, or_from}
+use Rattle.std.proofs.lemmas.Bool.{or_from}
 use Rattle.std.proofs.lemmas.List.Sums.{sum_by-cons}
 use Rattle.std.proofs.lemmas.List.Elements.{filter-append}
 use Rattle.am_domain.specs.declared.link.Edge.{Edge}
-use Rattle.am_domain.specs.Network.{has_links_in}
 use Rattle.am_domain.specs.Domains.{DomainValue}
 use Rattle.am_graph.specs.Graphs.{start_of, end_of}
 use Rattle.am_world.specs.declared.event.Event.{Event}
 use Rattle.am_world.specs.declared.event.Event.TheVariants.{Send, Hop, Lost}
-use Rattle.am_world.specs.Events.{event_packet, events_of, is_lost, node_after}
+use Rattle.am_world.specs.Events.{event_packet, events_of, node_after}
 use Rattle.am_world.specs.Worlds.{Travels, IsJourney, AreJourneys}
 use Rattle.am_world.specs.Passes.{passes}
 use Rattle.am_world.specs.Drops.{is_at, hops_over}

@@ -1,6 +1,6 @@
 -- The laws of worlds.
-use Rattle.std.proofs.Common.{◌≡◌, ◌∙◌, ℕ, ◌<◌, Bool, true, false, List, [], ◌∷◌, refl, sym, ap, arith}
-use Rattle.am_domain.specs.Domains.{DomainValue, IsLawful}
+use Rattle.std.proofs.Common.{ℕ, ◌<◌, List, refl}
+use Rattle.am_domain.specs.Domains.{DomainValue}
 use Rattle.am_graph.specs.Graphs.{graph_of}
 use Rattle.am_graph.specs.Clusters.{ClustersValue, AreClusters, count_of}
 use Rattle.am_clock.specs.Times.{Times}
@@ -12,7 +12,6 @@ use Rattle.am_world.specs.Laws.{AreConserved}
 use Rattle.am_world.proofs.JourneyLemmas.{IsOfSends}
 use Rattle.am_world.proofs.ClusterLemmas.{cluster-sides, entry-no-end}
 use Rattle.am_world.proofs.ConservationLemmas.{starts-conserved, ends-conserved}
-use Rattle.am_world.proofs.CountingLemmas.{bit-only}
 
 pub sends-only : (t : Times) (flow block : ℕ) → IsOfSends (sends t flow block)
 sends-only t flow block = record { hops = λ p link time reading. refl; losses = λ p. refl }

@@ -8,3 +8,5 @@ pub mod CountingLemmas
 pub mod DropLemmas
 pub mod DelayLemmas
 pub mod CellLemmas
+pub mod TripLemmas
+pub mod LossLemmas

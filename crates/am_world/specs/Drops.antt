@@ -1,5 +1,5 @@
 -- What is dropped in a cluster (RFC 9341, section 3.1; RFC 9342, section 5).
-use Rattle.std.specs.Prelude.{ℕ, ◌+◌, Bool, true, false, ◌&&◌, ◌==◌, not, List, [], ◌∷◌, count_by, sum_by, Option, Some, None}
+use Rattle.std.specs.Prelude.{ℕ, Bool, false, ◌&&◌, ◌==◌, not, List, count_by, sum_by, Option, Some, None}
 use Rattle.std.specs.List.{list_any, range_with_len}
 use Rattle.am_domain.specs.declared.link.Edge.{Edge}
 use Rattle.am_graph.specs.Lists.{list_at}

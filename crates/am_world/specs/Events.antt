@@ -1,6 +1,5 @@
 -- The events of a world: packets are sent, hop over links, and are lost. All times are nanoseconds.
 use Rattle.std.specs.Prelude.{ℕ, Bool, true, false, ◌==◌, List, [], ◌∷◌, filter, Option, Some, None}
-use Rattle.std.specs.List.{list_any}
 use Rattle.am_domain.specs.declared.link.Edge.{Edge}
 use Rattle.am_graph.specs.Graphs.{end_of}
 use Rattle.am_world.specs.declared.event.Event.{Event}

@@ -5,7 +5,7 @@ use Rattle.am_domain.specs.Domains.{DomainValue}
 use Rattle.am_graph.specs.Clusters.{ClustersValue}
 use Rattle.am_meter.specs.Metering.{node_shift}
 use Rattle.am_world.specs.declared.event.Event.{Event}
-use Rattle.am_world.specs.declared.event.Event.TheVariants.{Send, Hop, Lost}
+use Rattle.am_world.specs.declared.event.Event.TheVariants.{Send}
 use Rattle.am_world.specs.Events.{event_packet, event_reading}
 use Rattle.am_world.specs.Passes.{passes, passed_at, block_at}
 use Rattle.am_world.specs.Drops.{is_start, is_end, dropped_in, waiting_at, hopped_over, is_inside}

@@ -5,3 +5,5 @@ pub mod Drops
 pub mod Laws
 pub mod Losses
 pub mod Delays
+pub mod Trips
+pub mod TrueLosses

@@ -1,6 +1,6 @@
 -- Worlds that can be: what a network must be for its loss to be known from captures (RFC 9341, section 3.1; RFC 9342,
 -- section 4). Nothing is duplicated or fragmented, and packets enter where no link ends and leave where none begins.
-use Rattle.std.specs.Prelude.{◌≡◌, ℕ, ⊤, ◌+◌, ◌-◌, ◌*◌, ◌<◌, ◌≤◌, true, false, List, [], ◌∷◌, All, length, Some}
+use Rattle.std.specs.Prelude.{◌≡◌, ℕ, ⊤, ◌+◌, ◌-◌, ◌*◌, ◌<◌, ◌≤◌, false, List, [], ◌∷◌, All, length, Some}
 use Rattle.std.specs.List.{list_any}
 use Rattle.am_clock.specs.Times.{Times}
 use Rattle.am_domain.specs.declared.link.Edge.{Edge}

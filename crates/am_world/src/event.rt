@@ -1,5 +1,7 @@
 //! The events of a world.
 
+ghost use Rattle.std.specs.Prelude.{◌≡◌};
+
 /// What happens to one packet. Times are true times, which no clock shows; readings are what the clock of the node
 /// shows at that time. Both are nanoseconds from the captures' epoch.
 #[derive(Clone, Copy, Debug, PartialEq, Eq)]
@@ -25,4 +27,19 @@ pub enum Event {
     Lost {
         packet: u64,
     },
+}
+
+impl Event {
+    ghost use Rattle.am_world.specs.Events.{event_packet};
+
+    /// The packet to which it happens.
+    pub(crate) fn packet(&self) -> u64
+        ensures { result ≡ event_packet self.now }
+    {
+        match *self {
+            Event::Send { packet, .. } => packet,
+            Event::Hop { packet, .. } => packet,
+            Event::Lost { packet } => packet,
+        }
+    }
 }

@@ -9,8 +9,13 @@
 
 mod event;
 mod laws;
+mod loss;
 mod rule;
+mod trip;
+mod world;
 
 pub use event::Event;
 pub use laws::world_law;
+pub use loss::true_loss;
 pub use rule::{Breach, Rule};
+pub use world::World;
