@@ -1,0 +1,12 @@
+pub mod SumLemmas
+pub mod JourneyLemmas
+pub mod ConservationLemmas
+pub mod ClusterLemmas
+pub mod AttributionLemmas
+pub mod LawLemmas
+pub mod CountingLemmas
+pub mod DropLemmas
+pub mod DelayLemmas
+pub mod CellLemmas
+pub mod TripLemmas
+pub mod LossLemmas

@@ -1,0 +1,9 @@
+pub mod Events
+pub mod Worlds
+pub mod Passes
+pub mod Drops
+pub mod Laws
+pub mod Losses
+pub mod Delays
+pub mod Trips
+pub mod TrueLosses
