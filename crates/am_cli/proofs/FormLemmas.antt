@@ -118,7 +118,7 @@ once Auditing words a b s t = let same : a.file ≡ b.file = cc (sym s.spelled �
 once Gathering words a b s t = loss-once words a b s t
 
 -- what is taken of one file twice is one thing
-both-judged :
+pub both-judged :
     {A : Type 0} (t : Told) (name : List ℕ) (judge : List ℕ → Result A Reason → Type 0) → IsOne judge
     → (a b : A) → Judged (Some t) name judge (Ok a) → Judged (Some t) name judge (Ok b) → a ≡ b
 both-judged t name judge one a b p q = both-on-file t name (λ bytes. judge bytes (Ok a)) (λ bytes. judge bytes (Ok b)) p q (λ bytes x y. one.same bytes a b x y)

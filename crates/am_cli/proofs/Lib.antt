@@ -17,3 +17,4 @@ pub mod AuditLemmas
 pub mod UndoLemmas
 pub mod GatherLemmas
 pub mod AgreeLemmas
+pub mod HeadlineLemmas

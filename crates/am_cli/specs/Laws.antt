@@ -41,6 +41,7 @@ pub record CaptureExcludes : Type 0 where
 pub record Laws : Type 0 where
   pub capture : CaptureExcludes
   pub marks : (place : Place) → Excludes (JudgesCapture place)
+  pub one_marks : (place : Place) → IsOne (JudgesCapture place)
   pub domain : Excludes JudgesDomain
   pub one_domain : IsOne JudgesDomain
   pub lawful : (bytes : List ℕ) (d : DomainValue) → JudgesDomain bytes (Ok d) → IsLawful d

@@ -23,3 +23,4 @@ pub mod Forms
 pub mod Runs
 pub mod Shown
 pub mod Undoing
+pub mod Headline

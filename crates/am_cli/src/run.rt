@@ -5,6 +5,7 @@ ghost use Rattle.am_base.specs.Shelves.{OnTold};
 ghost use Rattle.am_cli.specs.Answers.{line, status};
 ghost use Rattle.am_cli.specs.Chains.{inputs, output};
 ghost use Rattle.am_cli.specs.Forms.{IsNoCommand};
+ghost use Rattle.am_cli.specs.Headline.{TellsEachWorld};
 ghost use Rattle.am_cli.specs.Runs.{Answers, Obeys, IsDecided, Completes, TellsLine, IsToldAs};
 ghost use Rattle.am_cli.specs.Shown.{stop_shown, answer_of};
 
@@ -12,6 +13,7 @@ use crate::answer::Stop;
 use crate::commands::{command_of, perform};
 use crate::laws::laws;
 use am_base::{Shelf, Sink, put};
+use am_world::world_law;
 use std::alloc::Global;
 
 /// The line where there was not enough memory.
@@ -54,8 +56,16 @@ pub fn run<S: Shelf, O: Sink, E: Sink>(
         (Rose (S.faults shelf.old) (S.faults shelf.new)
         ⊎ Rose (O.faults out.old) (O.faults out.new))
         result) }
+
+    // On such a shelf, of `audit`: whatever world the captures record that the domain names, whose clocks and delays are
+    // within the bounds of the domain, the loss that was printed of each cluster, flow and block is the number of the
+    // flow's packets of the block that were dropped in the cluster, and each delay is theirs but for the skew.
+    ensures headline { OnTold (S.told shelf.old)
+        (λ t. TellsEachWorld (map string_bytes words.now) (Some t)
+        (O.written out.old) (O.written out.new) result) }
 {
     laws();
+    world_law();
     match obey(alloc, words, shelf, out) {
         Ok(()) => 0,
         Err(stop) => tell(alloc, &stop, err),

@@ -11,6 +11,7 @@ returns c = record {
         record { head = front.0; more = front.1; packets = front.2 };
   };
   marks = λ place. record { never = λ bytes ms reason taken refused. c.marks_are_one.ensures.not_refused place bytes ms refused.0 taken refused.1 };
+  one_marks = λ place. record { same = λ bytes ms ns one other. c.marks_are_one.ensures.one place bytes ms ns one other };
   domain = record { never = domain-excludes c.domain_law.ensures.either };
   one_domain = record { same = λ bytes d e one other. c.domain_law.ensures.domain bytes d e one.1 other.1 };
   lawful = λ bytes d so. c.domain_law.ensures.lawful bytes d so.1;
