@@ -15,8 +15,8 @@ use Rattle.am_world.specs.Drops.{is_inside}
 abbrev pub signed_sum : {X : Type 0} → (X → ℤ) → List X → ℤ
 signed_sum number xs = fold ◌+ℤ◌ (pos 0) (map number xs)
 
--- how long a packet took over these links, if it passed a node at this time before these events of its: for each hop over
--- one, its time less that of the packet's pass before it
+-- how long a packet took over these links, if it passed a node at this time before these events of its: for each hop
+-- over one, its time less that of the packet's pass before it
 abbrev pub time_over : (ℕ → Bool) → ℕ → List Event → ℤ
 time_over inside before [] = pos 0
 time_over inside before (Send packet flow node time reading delay ∷ es) = time_over inside time es
@@ -34,8 +34,8 @@ pub record DifferByAtMost (a b : ℤ) (most : ℕ) : Type 0 where
   pub above : a ≤ℤ (b +ℤ pos most)
   pub below : b ≤ℤ (a +ℤ pos most)
 
--- of this flow and this block, the delay of each cluster, where the table has one, is how long the packets took over its
--- links, but for the skew at each packet that left; and so are the D columns over the packets with the delay bit
+-- of this flow and this block, the delay of each cluster, where the table has one, is how long the packets took over
+-- its links, but for the skew at each packet that left; and so are the D columns over the packets with the delay bit
 pub record TellsDelays (d : DomainValue) (m : Measured) (events : List Event) (flow block : ℕ) : Type 0 where
   pub all : (k : ℕ) → k < count_of m.plan.clusters
       → IfSome (loss_row m (Cluster k) flow block).delay (λ delay.

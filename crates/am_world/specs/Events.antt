@@ -33,8 +33,8 @@ is_lost (Lost packet) = true
 abbrev pub events_of : List Event → ℕ → List Event
 events_of events packet = filter (λ e. event_packet e == packet) events
 
--- where a packet is after these events of its, if it was there before them: at the node where it was sent, or at the end
--- of the last link that it hopped over
+-- where a packet is after these events of its, if it was there before them: at the node where it was sent, or at the
+-- end of the last link that it hopped over
 abbrev pub node_after : List Edge → Option ℕ → List Event → Option ℕ
 node_after links at [] = at
 node_after links at (Send packet flow node time reading delay ∷ es) = node_after links (Some node) es

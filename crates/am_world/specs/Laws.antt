@@ -10,8 +10,8 @@ use Rattle.am_world.specs.Events.{event_packet, event_reading}
 use Rattle.am_world.specs.Passes.{passes, passed_at, block_at}
 use Rattle.am_world.specs.Drops.{is_start, is_end, dropped_in, waiting_at, hopped_over, is_inside}
 
--- where the second event is a pass of the packet that is sent at the first: by its reading there, and by the colour of the
--- block in which the packet was sent, it belongs to that block, and to no other (RFC 9341, section 5)
+-- where the second event is a pass of the packet that is sent at the first: by its reading there, and by the colour of
+-- the block in which the packet was sent, it belongs to that block, and to no other (RFC 9341, section 5)
 abbrev pub IsAttributed : DomainValue → Event → Event → Type 0
 IsAttributed d (Send packet flow entry time sent delay) e =
     packet ≡ event_packet e

@@ -11,8 +11,8 @@ use Rattle.am_world.specs.Worlds.{IsValid, IsTimed}
 use Rattle.am_world.specs.Passes.{sends, Records}
 use Rattle.am_world.specs.Drops.{dropped_in, dropped_in_all}
 
--- the captures of the domain's nodes, by their marked records, record a valid world whose clocks and delays are within the
--- bounds of the domain
+-- the captures of the domain's nodes, by their marked records, record a valid world whose clocks and delays are within
+-- the bounds of the domain
 pub record AreRecorded (d : DomainValue) (events : List Event) (captures : ℕ → List Marked) : Type 0 where
   pub valid : IsValid d events
   pub timed : IsTimed d.times events

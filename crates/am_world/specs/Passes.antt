@@ -1,5 +1,5 @@
--- What passes the nodes of a world, and when a capture records it (RFC 9341, section 3.1; RFC 9343, section 5). All times
--- are nanoseconds.
+-- What passes the nodes of a world, and when a capture records it (RFC 9341, section 3.1; RFC 9343, section 5). All
+-- times are nanoseconds.
 use Rattle.std.specs.Prelude.{◌≡◌, ℕ, ◌/◌, ◌%◌, ◌<◌, ◌≤◌, Bool, false, ◌&&◌, ◌==◌, List, count_by, length, slice_index_or}
 use Rattle.std.specs.List.{list_any}
 use Rattle.am_clock.specs.Times.{Times, parity}

@@ -11,8 +11,8 @@ use Rattle.am_world.specs.declared.event.Event.{Event}
 use Rattle.am_world.specs.declared.event.Event.TheVariants.{Send, Hop, Lost}
 use Rattle.am_world.specs.Events.{events_of, is_lost, present}
 
--- from this node a packet travels on so: it hops over links, each of which begins where the packet is, and at last it may
--- be lost
+-- from this node a packet travels on so: it hops over links, each of which begins where the packet is, and at last it
+-- may be lost
 abbrev pub Travels : List Edge → ℕ → List Event → Type 0
 Travels links node [] = ⊤
 Travels links node (Send packet flow at time reading delay ∷ es) = ⊥

@@ -11,6 +11,8 @@ mod event;
 mod laws;
 mod loss;
 mod rule;
+#[cfg(test)]
+mod tests;
 mod trip;
 mod world;
 

@@ -15,8 +15,8 @@ use am_graph::Clusters;
 use std::alloc::{AllocError, Global};
 use std::collections::HashMap;
 
-/// For each flow, and in it each reported block, ascending, how many packets of the flow that were sent in the block were
-/// dropped in the cluster: they are lost, and the last node that they passed is a start of it.
+/// For each flow, and in it each reported block, ascending, how many packets of the flow that were sent in the block
+/// were dropped in the cluster: they are lost, and the last node that they passed is a start of it.
 pub fn true_loss(
     alloc: Global,
     domain: &Domain,
