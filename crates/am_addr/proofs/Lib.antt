@@ -2,7 +2,6 @@ pub mod Walk
 pub mod Listing
 pub mod Gap
 pub mod Bytes
-pub mod Alike
 pub mod MaskLemmas
 pub mod Slash
 pub mod Runs

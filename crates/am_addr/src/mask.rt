@@ -1,12 +1,11 @@
 //! Masks: how many of an address's first bits count, made ready to clear the others of many addresses.
 
-ghost use Rattle.std.specs.Prelude.{◌≡◌, ℕ, nat_eq};
+ghost use Rattle.std.specs.Prelude.{◌≡◌, ℕ, ◌≤◌, nat_eq};
 ghost use Rattle.std.specs.Cmp;
 ghost use Rattle.std.specs.Cmp.{nat_eq_equiv};
-ghost use Rattle.am_addr.specs.Bits.{cleared, ones};
+ghost use Rattle.am_addr.specs.Bits.{cleared, kept, ones};
 
 use crate::address::Addr;
-use crate::prefix::front_of;
 use std::marker::Model;
 
 /// How many of an address's first bits count. An address has 128.
@@ -53,6 +52,13 @@ impl Mask {
         Mask { count, bits }
     }
 
+    /// How many bits count.
+    pub(crate) fn count(&self) -> u8
+        ensures { result ≡ self.now }
+    {
+        self.count
+    }
+
     /// The address with each bit that doesn't count set to 0.
     pub fn clear(&self, addr: &Addr) -> Addr
         ensures { result.0 ≡ cleared self.now addr.now.0 }
@@ -70,4 +76,31 @@ fn both(bytes: &[u8; 16], bits: &[u8; 16]) -> [u8; 16]
         kept[i] = bytes[i] & bits[i];
     }
     kept
+}
+
+// The address with each bit past this many set to 0.
+pub(crate) fn front_of(addr: &Addr, length: u8) -> Addr
+    ensures { result.0 ≡ cleared length addr.now.0 }
+{
+    let mut bytes = addr.0;
+    let mut rest = length;
+    for byte in &mut bytes {
+        if rest >= 8 {
+            rest -= 8;
+        } else {
+            *byte = keep(*byte, rest);
+            rest = 0;
+        }
+    }
+    Addr(bytes)
+}
+
+// The byte with each bit past the first ones, so many, set to 0.
+fn keep(byte: u8, count: u8) -> u8
+    requires { count ≤ 8 }
+    ensures { result ≡ kept count byte }
+{
+    let others = 8 - count;
+    let first = u16::from(byte) >> others;
+    (first << others) as u8
 }

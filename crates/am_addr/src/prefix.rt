@@ -2,9 +2,10 @@
 
 ghost use Rattle.std.specs.Prelude.{◌≡◌, ℕ, ◌+◌, ◌-◌, ◌*◌, ◌/◌, ◌^◌, ◌<◌, ◌≤◌, ◌↔◌, List, IsTrue, Some, IfSome, IfNone};
 ghost use Rattle.am_addr.specs.Text.{IsTextOf};
-ghost use Rattle.am_addr.specs.Bits.{Span, BeginAlike, cleared, kept, IsLength, Decimal, IsPrefixText};
+ghost use Rattle.am_addr.specs.Bits.{Span, BeginAlike, cleared, IsLength, Decimal, IsPrefixText};
 
 use crate::address::{Addr, parse};
+use crate::mask::{Mask, front_of};
 use std::marker::Model;
 
 // An address has so many bits.
@@ -16,7 +17,8 @@ const BITS: u8 = 128;
 pub struct Prefix {
     // the bits past the length are 0
     base: Addr,
-    length: u8,
+    // how many bits count
+    mask: Mask,
 }
 
 impl Model for Prefix {
@@ -25,11 +27,11 @@ impl Model for Prefix {
 
     ghost Value = { Span };
 
-    ghost view = { λ p. record { bytes = p.base.0; length = p.length } };
+    ghost view = { λ p. record { bytes = p.base.0; length = p.mask } };
 
-    ghost invariant = { λ p. (p.length ≤ 128) × (cleared p.length p.base.0 ≡ p.base.0) };
+    ghost invariant = { λ p. (p.mask ≤ 128) × (cleared p.mask p.base.0 ≡ p.base.0) };
 
-    ghost inverse = { λ s. record { base = record { 0 = s.bytes }; length = s.length } };
+    ghost inverse = { λ s. record { base = record { 0 = s.bytes }; mask = s.length } };
 }
 
 impl Prefix {
@@ -53,17 +55,14 @@ impl Prefix {
         let Some(length) = length_of(number.as_bytes()) else {
             return None;
         };
-        Some(Prefix {
-            base: front_of(&addr, length),
-            length,
-        })
+        Some(prefix_of(&addr, length))
     }
 
     /// Whether an address begins with the prefix's bits.
     pub fn holds(&self, addr: &Addr) -> bool
         ensures { IsTrue result ↔ BeginAlike self.now.length addr.now.0 self.now.bytes }
     {
-        begin_alike(&addr.0, &self.base.0, self.length)
+        self.mask.clear(addr) == self.base
     }
 
     /// The first address of the prefix: its bits, and 0 for each further one.
@@ -79,54 +78,20 @@ impl Prefix {
         ensures value { result ≡ self.now.length }
         ensures most { result ≤ 128 }
     {
-        self.length
+        self.mask.count()
     }
 }
 
-// Whether the first bits, so many, are the same: whole bytes, one after another up to the first that differs,
-// and then the bits that count of the byte that is cut.
-fn begin_alike(xs: &[u8; 16], ys: &[u8; 16], length: u8) -> bool
-    ensures { IsTrue result ↔ BeginAlike length xs.now ys.now }
+// The prefix of the address that has so many bits.
+fn prefix_of(addr: &Addr, length: u8) -> Prefix
+    requires { length ≤ 128 }
+    ensures bytes { result.bytes ≡ cleared length addr.now.0 }
+    ensures length { result.length ≡ length }
 {
-    let mut left = length;
-    for i in 0..16 {
-        let (x, y) = (xs[i], ys[i]);
-        if left < 8 {
-            return keep(x, left) == keep(y, left);
-        }
-        if x != y {
-            return false;
-        }
-        left -= 8;
+    Prefix {
+        base: front_of(addr, length),
+        mask: Mask::new(length),
     }
-    true
-}
-
-// The address with each bit past this many set to 0.
-pub(crate) fn front_of(addr: &Addr, length: u8) -> Addr
-    ensures { result.0 ≡ cleared length addr.now.0 }
-{
-    let mut bytes = addr.0;
-    let mut rest = length;
-    for byte in &mut bytes {
-        if rest >= 8 {
-            rest -= 8;
-        } else {
-            *byte = keep(*byte, rest);
-            rest = 0;
-        }
-    }
-    Addr(bytes)
-}
-
-// The byte with each bit past the first ones, so many, set to 0.
-fn keep(byte: u8, count: u8) -> u8
-    requires { count ≤ 8 }
-    ensures { result ≡ kept count byte }
-{
-    let others = 8 - count;
-    let first = u16::from(byte) >> others;
-    (first << others) as u8
 }
 
 // How many bits a prefix has, as the number behind its `/` says.

@@ -1,6 +1,6 @@
 use Rattle.std.proofs.Common.{◌≡◌, ◌++◌, take, drop}
 use Rattle.am_addr.specs.Bits.{cleared}
-use Rattle.am_addr.proofs.prefix.front_of.Given as goal
+use Rattle.am_addr.proofs.mask.front_of.Given as goal
 
 abbrev pub invariant-loop-byte : goal.invariant-loop-byte
 invariant-loop-byte l =
