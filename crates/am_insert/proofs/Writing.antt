@@ -1,13 +1,13 @@
 -- A changed packet written piece by piece.
 use Rattle.std.proofs.Common.{arith, refl, sym, ap, subst, ◌∙◌, ◌≡◌, ℕ, ◌+◌, ◌-◌, ◌/◌, ◌%◌, ◌^◌, ◌<◌, ◌≤◌, List, ◌∷◌, ◌++◌, length, take, drop, set, append_assoc, add-one, length-append, Option, Some, None}
-use Rattle.std.proofs.Math.Seq.{take-append-add, take-length}
-use Rattle.std.proofs.lemmas.List.{take-append-drop, length-take-le, length-drop, length-set, set_split, set-append_right, drop-set-lt, take-append-le, drop-drop}
+use Rattle.std.proofs.Math.Seq.{take-add, take-append-add, take-length}
+use Rattle.std.proofs.lemmas.List.{take-append-drop, take_at, length-take-le, length-drop, length-set, set_split, set-append_left, set-append_right, drop-set-lt, take-append-le, drop-drop}
 use Rattle.std.specs.Prelude.{Result, Ok, Err, OnErr}
 use Rattle.std.specs.Io.KnownBytes.{append_known}
 use Rattle.am_base.specs.Sinks.{AppendsFront}
 use Rattle.am_insert.specs.Changes.{put_in, without_eight, with_payload}
-use Rattle.am_insert.specs.Edits.{moved}
-use Rattle.am_insert.proofs.ListLemmas.{take-set-in}
+use Rattle.am_insert.specs.Edits.{moved, goes_on}
+use Rattle.am_insert.proofs.ListLemmas.{take-set-in, set-put_in}
 
 appended-twice : (w : Option (List ℕ)) (a b : List ℕ) → append_known (append_known w a) b ≡ append_known w (a ++ b)
 appended-twice None a b = refl
@@ -88,26 +88,72 @@ behind-changed xs p from n t b size =
     ∙ ap (λ (l : List ℕ). set l (from + t) b) (set-behind xs (set p 4 (n / 2 ^ 8)) from 5 (n % 2 ^ 8) size)
     ∙ set-behind xs (with_payload n p) from t b size
 
--- a list, and behind it the three parts of a packet with eight bytes more
-pub behind-put :
-    (xs p ys : List ℕ) (from n t b at : ℕ) → length xs ≡ from → 40 ≤ at → t < at
-    → (changed_behind (xs ++ take at p) from n t b ++ ys) ++ drop at p ≡ xs ++ put_in (set (with_payload n p) t b) at ys
-behind-put xs p ys from n t b at size whole low =
-    let front = set (with_payload n (take at p)) t b in
-    ap (λ (l : List ℕ). (l ++ ys) ++ drop at p) (behind-changed xs (take at p) from n t b size)
-    ∙ ap (λ (l : List ℕ). l ++ drop at p) (append_assoc xs front ys)
-    ∙ append_assoc xs (front ++ ys) (drop at p)
-    ∙ ap (λ (l : List ℕ). xs ++ l) (put-parts p ys n t b at whole low)
+-- eight bytes of a packet behind a list, and others over them
+pub overwritten :
+    (xs p ys l : List ℕ) (place n : ℕ) → place + 8 ≤ length p → l ≡ xs ++ take (place + 8) p → n ≡ length xs + place
+    → take n l ++ ys ≡ xs ++ (take place p ++ ys)
+overwritten xs p ys l place n more is size =
+    let front : take place (take (place + 8) p) ≡ take place p =
+    ap (λ (x : List ℕ). take place x) (take-add place 8 p)
+    ∙ take_at (take place p) (take 8 (drop place p)) place (length-take-le place p (omega (arith, more))) in
+    ap (λ (k : ℕ). take k l ++ ys) size
+    ∙ ap (λ (x : List ℕ). take (length xs + place) x ++ ys) is
+    ∙ ap (λ (x : List ℕ). x ++ ys) (take-append-add xs (take (place + 8) p) place ∙ ap (λ (x : List ℕ). xs ++ x) front)
+    ∙ append_assoc xs (take place p) ys
 
--- and the two parts of one with eight bytes fewer
-pub behind-cut :
-    (xs p : List ℕ) (from n t b at : ℕ) → length xs ≡ from → 40 ≤ at → t < at
-    → changed_behind (xs ++ take at p) from n t b ++ drop (at + 8) p ≡ xs ++ without_eight (set (with_payload n p) t b) at
-behind-cut xs p from n t b at size whole low =
-    let front = set (with_payload n (take at p)) t b in
-    ap (λ (l : List ℕ). l ++ drop (at + 8) p) (behind-changed xs (take at p) from n t b size)
-    ∙ append_assoc xs front (drop (at + 8) p)
-    ∙ ap (λ (l : List ℕ). xs ++ l) (cut-parts p n t b at whole low)
+-- a change before the place where eight bytes go out
+set-without : (xs : List ℕ) (at i a : ℕ) → i < at → at + 8 ≤ length xs → set (without_eight xs at) i a ≡ without_eight (set xs i a) at
+set-without xs at i a low within =
+    let size = length-take-le at xs (omega (arith, within)) in
+    set-append_left (take at xs) (drop (at + 8) xs) i a (omega (arith, low, size))
+    ∙ ap (λ (l : List ℕ). l ++ drop (at + 8) xs) (sym (take-set-in at xs i a low))
+    ∙ ap (λ (l : List ℕ). take at (set xs i a) ++ l) (sym (drop-set-lt (at + 8) xs i a (omega (arith, low))))
+
+-- and before the one where eight come in or go out
+set-moved :
+    (p : List ℕ) (at i a : ℕ) (eight : Option (List ℕ)) → i < at → goes_on at eight ≤ length p → set (moved p at eight) i a ≡ moved (set p i a) at eight
+set-moved p at i a None low within = set-without p at i a low within
+set-moved p at i a (Some ys) low within = set-put_in p ys at i a low within
+
+still-within : (p : List ℕ) (at i a : ℕ) (eight : Option (List ℕ)) → goes_on at eight ≤ length p → goes_on at eight ≤ length (set p i a)
+still-within p at i a eight within = omega (arith, within, length-set p i a)
+
+changed-moved :
+    (p : List ℕ) (n t b at : ℕ) (eight : Option (List ℕ)) → 40 ≤ at → t < at → goes_on at eight ≤ length p
+    → set (with_payload n (moved p at eight)) t b ≡ moved (set (with_payload n p) t b) at eight
+changed-moved p n t b at eight whole low within =
+    let first = set p 4 (n / 2 ^ 8) in
+    let there = still-within p at 4 (n / 2 ^ 8) eight within in
+    ap (λ (l : List ℕ). set (set l 5 (n % 2 ^ 8)) t b) (set-moved p at 4 (n / 2 ^ 8) eight (omega (arith, whole)) within)
+    ∙ ap (λ (l : List ℕ). set l t b) (set-moved first at 5 (n % 2 ^ 8) eight (omega (arith, whole)) there)
+    ∙ set-moved (with_payload n p) at t b eight low (still-within first at 5 (n % 2 ^ 8) eight there)
+
+-- eight bytes that come in or go out behind the first bytes
+moved-behind :
+    (p : List ℕ) (at e : ℕ) (eight : Option (List ℕ)) → moved p (at + e) eight ≡ take at p ++ moved (drop at p) e eight
+moved-behind p at e None =
+    let place : at + (e + 8) ≡ at + e + 8 = omega arith in
+    ap (λ (l : List ℕ). l ++ drop (at + e + 8) p) (take-add at e p)
+    ∙ ap (λ (l : List ℕ). (take at p ++ take e (drop at p)) ++ l) (sym (drop-drop (e + 8) at p ∙ ap (λ (k : ℕ). drop k p) place))
+    ∙ append_assoc (take at p) (take e (drop at p)) (drop (e + 8) (drop at p))
+moved-behind p at e (Some ys) =
+    ap (λ (l : List ℕ). (l ++ ys) ++ drop (at + e) p) (take-add at e p)
+    ∙ ap (λ (l : List ℕ). ((take at p ++ take e (drop at p)) ++ ys) ++ l) (sym (drop-drop e at p))
+    ∙ ap (λ (l : List ℕ). l ++ drop e (drop at p)) (append_assoc (take at p) (take e (drop at p)) ys)
+    ∙ append_assoc (take at p) (take e (drop at p) ++ ys) (drop e (drop at p))
+
+-- a list, and behind it the first bytes and the changed packet
+pub behind-moved :
+    (xs p : List ℕ) (from at n t b e : ℕ) (eight : Option (List ℕ)) → length xs + at ≡ from → at ≤ length p
+    → 40 ≤ e → t < e → goes_on e eight ≤ length (drop at p)
+    → changed_behind (xs ++ moved p (at + e) eight) from n t b ≡ xs ++ (take at p ++ moved (set (with_payload n (drop at p)) t b) e eight)
+behind-moved xs p from at n t b e eight size within whole low there =
+    let size_is : length (xs ++ take at p) ≡ from = omega (arith, size, length-append xs (take at p), length-take-le at p within) in
+    ap (λ (l : List ℕ). changed_behind l from n t b)
+    (ap (λ (l : List ℕ). xs ++ l) (moved-behind p at e eight) ∙ sym (append_assoc xs (take at p) (moved (drop at p) e eight)))
+    ∙ behind-changed (xs ++ take at p) (moved (drop at p) e eight) from n t b size_is
+    ∙ ap (λ (l : List ℕ). (xs ++ take at p) ++ l) (changed-moved (drop at p) n t b e eight whole low there)
+    ∙ append_assoc xs (take at p) (moved (set (with_payload n (drop at p)) t b) e eight)
 
 -- a change in the first part
 pub set-first :

@@ -1,11 +1,11 @@
 //! An edit of a packet: eight bytes come in or go out, and the payload length and one further byte change.
 
-ghost use Rattle.std.specs.Prelude.{◌≡◌, ◌+◌, ◌≤◌, ◌<◌, ◌++◌, length, slice_set, vec_len, vec_capacity, OnOk, OnErr, IfOk};
+ghost use Rattle.std.specs.Prelude.{◌≡◌, ◌+◌, ◌-◌, ◌≤◌, ◌<◌, ◌++◌, length, take, drop, slice_set, vec_len, vec_capacity, OnOk, OnErr, IfOk};
 ghost use Rattle.std.specs.Io.KnownBytes.{append_known};
 ghost use Rattle.am_base.specs.Counts.{Rose};
 ghost use Rattle.am_base.specs.Sinks.{AppendsFront};
-ghost use Rattle.am_insert.specs.Changes.{with_payload};
-ghost use Rattle.am_insert.specs.Edits.{edited, IsEditOf};
+ghost use Rattle.am_insert.specs.Changes.{with_payload, put_in};
+ghost use Rattle.am_insert.specs.Edits.{edited, moved, goes_on, IsEditOf};
 
 use am_base::{Fault, Sink, put};
 use std::alloc::{AllocError, Global};
@@ -96,19 +96,22 @@ impl Edit {
         requires room { vec_len list.old + length bytes.now + 8 ≤ vec_capacity list.old }
         ensures { list.new.items ≡ list.old.items ++ edited self.now bytes.now }
     {
-        let from = list.len();
-        let (front, behind) = bytes.split_at(self.at);
-        push_all(list, front);
+        self.append_behind(bytes, 0, list);
+    }
+
+    /// The same of a packet that begins at this place of the bytes, behind those before it, which stay as they are.
+    pub fn append_behind(&self, bytes: &[u8], at: usize, list: &mut Vec<u8>)
+        requires within { at ≤ length bytes.now }
+        requires edit { IsEditOf self.now (drop at bytes.now) }
+        requires room { vec_len list.old + length bytes.now + 8 ≤ vec_capacity list.old }
+        ensures { list.new.items ≡ list.old.items
+            ++ (take at bytes.now ++ edited self.now (drop at bytes.now)) }
+    {
+        let from = list.len() + at;
+        push_moved(list, bytes, at + self.at, &self.eight);
         list[from + 4] = (self.payload / 256) as u8;
         list[from + 5] = (self.payload % 256) as u8;
         list[from + self.place] = self.byte;
-        match &self.eight {
-            Some(eight) => {
-                push_all(list, eight);
-                push_all(list, behind);
-            }
-            None => push_all(list, &behind[MOVED..]),
-        }
     }
 
     /// The changed packet. The bytes are those of the plan.
@@ -132,6 +135,62 @@ fn push_all(list: &mut Vec<u8>, bytes: &[u8])
     let taken = list.extend_from_slice(bytes);
     let fits = taken.is_ok();
     prove!(fits);
+}
+
+// Appends the bytes as they are where eight come in at this place or go out there.
+fn push_moved(list: &mut Vec<u8>, bytes: &[u8], place: usize, eight: &Option<[u8; MOVED]>)
+    requires within { goes_on place eight.now ≤ length bytes.now }
+    requires room { vec_len list.old + length bytes.now + 8 ≤ vec_capacity list.old }
+    ensures items { list.new.items ≡ list.old.items ++ moved bytes.now place eight.now }
+    ensures len { vec_len list.old + place ≤ vec_len list.new }
+{
+    match eight {
+        Some(eight) => push_with(list, bytes, place, eight),
+        None => {
+            push_all(list, &bytes[..place]);
+            push_all(list, &bytes[place + MOVED..]);
+        }
+    }
+}
+
+// Appends the bytes with these eight put in at a place.
+fn push_with(list: &mut Vec<u8>, bytes: &[u8], place: usize, eight: &[u8; MOVED])
+    requires within { place ≤ length bytes.now }
+    requires room { vec_len list.old + length bytes.now + 8 ≤ vec_capacity list.old }
+    ensures items { list.new.items ≡ list.old.items ++ put_in bytes.now place eight.now }
+    ensures len { vec_len list.old + place ≤ vec_len list.new }
+{
+    push_front(list, bytes, place, eight);
+    push_all(list, &bytes[place..]);
+}
+
+// Appends the bytes before the place, and behind them these eight. Where eight bytes are behind the place, they are copied
+// with what is before it, and then written over, which saves a copy.
+fn push_front(list: &mut Vec<u8>, bytes: &[u8], place: usize, eight: &[u8; MOVED])
+    requires within { place ≤ length bytes.now }
+    requires room { vec_len list.old + place + 8 ≤ vec_capacity list.old }
+    ensures items { list.new.items ≡ list.old.items ++ (take place bytes.now ++ eight.now) }
+    ensures len { vec_len list.new ≡ vec_len list.old + place + 8 }
+    ensures room { vec_capacity list.old ≤ vec_capacity list.new }
+{
+    if bytes.len() - place < MOVED {
+        push_all(list, &bytes[..place]);
+        push_all(list, eight);
+        return;
+    }
+    push_all(list, &bytes[..place + MOVED]);
+    put_last(list, eight);
+}
+
+// Puts these eight bytes in the place of the last eight.
+fn put_last(list: &mut Vec<u8>, eight: &[u8; MOVED])
+    requires { 8 ≤ vec_len list.old }
+    ensures items { list.new.items ≡ take (vec_len list.old - 8) list.old.items ++ eight.now }
+    ensures len { vec_len list.new ≡ vec_len list.old }
+    ensures room { vec_capacity list.old ≤ vec_capacity list.new }
+{
+    let from = list.len() - MOVED;
+    list[from..].copy_from_slice(eight);
 }
 
 // Appends these bytes, and then the others.
