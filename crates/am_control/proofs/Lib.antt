@@ -4,3 +4,4 @@ pub mod TextLemmas
 pub mod SideLemmas
 pub mod ReportLemmas
 pub mod LossLemmas
+pub mod WritingLemmas

@@ -83,7 +83,8 @@ plan-sides d p lawful of = record {
   exits = rw of.exits (side-without (has_links_out d.links) (length d.nodes) lawful.few_nodes);
 }
 
-range-more : (a n : ℕ) → range_with_len a (suc n) ≡ range_with_len a n ++ (a + n) ∷ []
+-- one number more
+pub range-more : (a n : ℕ) → range_with_len a (suc n) ≡ range_with_len a n ++ (a + n) ∷ []
 range-more a zero = rw (add-zero a) refl
 range-more a (suc n) =
     let e : a + 1 + n ≡ a + suc n = omega arith in

@@ -6,12 +6,7 @@ use Rattle.std.proofs.Math.Seq.{take-append_seam}
 use Rattle.std.proofs.lemmas.List.{length-append, take-append-le, take-append-drop, take_more, append-nil}
 use Rattle.std.proofs.lemmas.List.Concat.{flat_map-append}
 use Rattle.std.proofs.lemmas.Option.{slice_get_within, get_or_from_slice_get}
-use Rattle.std.specs.Prelude.{ℤ, codes, decimal}
-use Rattle.std.specs.Fmt.{signed_decimal}
 use Rattle.am_base.specs.Sinks.{AppendsFront, IsWrittenOf}
-use Rattle.am_domain.specs.Values.{FlowValue}
-use Rattle.am_control.specs.declared.row.LossRow.{LossRow}
-use Rattle.am_control.specs.Texts.{scope_text, named_flow, delay_text, loss_line}
 
 -- the text so far, and the piece of one item more
 pub piece-more : {X A : Type 0} (f : X → List A) (head : List A) (xs : List X) (k : ℕ) (x : X) → slice_get xs k ≡ Some x
@@ -53,30 +48,3 @@ front-written start written held text w = (
 pub front-none : (old : Option (List ℕ)) (text : List ℕ) → AppendsFront old old text
 front-none None text = (0, omega arith, refl)
 front-none (Some xs) text = (0, omega arith, ap Some (sym (append-nil xs)))
-
--- fields behind one another, each after a comma
-fields-joined : (k n a0 a1 a2 a3 a4 a5 a6 a7 a8 a9 : List ℕ)
-    → ((((((((((([] ++ a0) ++ (k ++ a1)) ++ (k ++ a2)) ++ (k ++ a3)) ++ (k ++ a4)) ++ (k ++ a5)) ++ (k ++ a6)) ++ (k ++ a7)) ++ (k ++ a8)) ++ (k ++ a9)) ++ n)
-    ≡ a0 ++ k ++ a1 ++ k ++ a2 ++ k ++ a3 ++ k ++ a4 ++ k ++ a5 ++ k ++ a6 ++ k ++ a7 ++ k ++ a8 ++ k ++ a9 ++ n
-fields-joined k n a0 a1 a2 a3 a4 a5 a6 a7 a8 a9 = simp append_assoc
-
--- the pieces of a line, one after another
-pub line-made : (flows : List FlowValue) (r : LossRow) (z : ℤ) (t t1 t2 t3 t4 t5 t6 t7 t8 t9 t10 t11 : List ℕ)
-    → z ≡ r.lost
-    → t ≡ []
-    → t1 ≡ t ++ scope_text r.scope
-    → t2 ≡ t1 ++ (codes "," ++ named_flow flows r.flow)
-    → t3 ≡ t2 ++ (codes "," ++ decimal r.block)
-    → t4 ≡ t3 ++ (codes "," ++ decimal r.entered)
-    → t5 ≡ t4 ++ (codes "," ++ decimal r.left)
-    → t6 ≡ t5 ++ (codes "," ++ signed_decimal z)
-    → t7 ≡ t6 ++ (codes "," ++ delay_text r.delay)
-    → t8 ≡ t7 ++ (codes "," ++ decimal r.d_entered)
-    → t9 ≡ t8 ++ (codes "," ++ decimal r.d_left)
-    → t10 ≡ t9 ++ (codes "," ++ delay_text r.d_delay)
-    → t11 ≡ t10 ++ codes "\n"
-    → t11 ≡ loss_line flows r
-line-made flows r z t t1 t2 t3 t4 t5 t6 t7 t8 t9 t10 t11 ez e e1 e2 e3 e4 e5 e6 e7 e8 e9 e10 e11 =
-    rw (e11, e10, e9, e8, e7, e6, e5, e4, e3, e2, e1, e, ez)
-    (fields-joined (codes ",") (codes "\n") (scope_text r.scope) (named_flow flows r.flow) (decimal r.block) (decimal r.entered) (decimal r.left)
-    (signed_decimal r.lost) (delay_text r.delay) (decimal r.d_entered) (decimal r.d_left) (delay_text r.d_delay))

@@ -28,6 +28,16 @@ loss_line flows r =
     ++ codes "," ++ decimal r.entered ++ codes "," ++ decimal r.left ++ codes "," ++ signed_decimal r.lost ++ codes "," ++ delay_text r.delay
     ++ codes "," ++ decimal r.d_entered ++ codes "," ++ decimal r.d_left ++ codes "," ++ delay_text r.d_delay ++ codes "\n"
 
+-- how the lines of a flow in a scope begin
+abbrev pub line_start : List FlowValue → Scope → ℕ → List ℕ
+line_start flows scope flow = scope_text scope ++ codes "," ++ named_flow flows flow ++ codes ","
+
+-- and what stands behind it in the line of a row
+abbrev pub line_rest : LossRow → List ℕ
+line_rest r =
+    decimal r.block ++ codes "," ++ decimal r.entered ++ codes "," ++ decimal r.left ++ codes "," ++ signed_decimal r.lost ++ codes "," ++ delay_text r.delay
+    ++ codes "," ++ decimal r.d_entered ++ codes "," ++ decimal r.d_left ++ codes "," ++ delay_text r.d_delay ++ codes "\n"
+
 -- the names of the columns
 abbrev pub loss_columns : List ℕ
 loss_columns = codes "scope,flow,block,in,out,lost,delay,din,dout,ddelay\n"

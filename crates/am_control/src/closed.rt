@@ -1,8 +1,9 @@
 //! The loss table of a controller that has the reports of all nodes.
 
-ghost use Rattle.std.specs.Prelude.{◌≡◌, ◌<◌, Some, length, slice_get};
+ghost use Rattle.std.specs.Prelude.{◌≡◌, ◌-◌, ◌<◌, ◌≤◌, Some, length, slice_get, vec_capacity};
+ghost use Rattle.am_graph.specs.Clusters.{count_of};
 ghost use Rattle.am_control.specs.Controls.{HasRow, IsComplete, IsScope, measured_of};
-ghost use Rattle.am_control.specs.Rows.{loss_row, loss_rows};
+ghost use Rattle.am_control.specs.Rows.{loss_row, flow_rows, loss_rows};
 
 use crate::control::Control;
 use crate::row::{LossRow, Scope, row_of};
@@ -60,8 +61,54 @@ impl<'a> Closed<'a> {
         self.row_at(Scope::Network, flow as u32, block)
     }
 
-    // The row of a scope, a flow and a block.
-    fn row_at(&self, scope: Scope, flow: u32, block: u64) -> LossRow
+    /// How many clusters there are.
+    pub(crate) fn clusters(&self) -> u32
+        ensures { result ≡ count_of self.now.plan.clusters }
+    {
+        self.control.clusters()
+    }
+
+    /// How many flows there are.
+    pub(crate) fn flows(&self) -> u32
+        ensures { result ≡ self.now.plan.flows }
+    {
+        self.control.flows()
+    }
+
+    /// The first block that is reported.
+    pub(crate) fn first(&self) -> u64
+        ensures { result ≡ self.now.plan.first }
+    {
+        self.control.first()
+    }
+
+    /// The first block behind those that are reported.
+    pub(crate) fn end(&self) -> u64
+        ensures value { result ≡ self.now.plan.end }
+        ensures some { self.now.plan.first < self.now.plan.end }
+    {
+        self.control.end()
+    }
+
+    /// Puts the rows of a flow in a scope, one for each reported block, in place of those that there are. No memory is
+    /// taken.
+    // Apart from the writing of the lines: so the cells of several blocks are on their way from memory at once.
+    pub(crate) fn put_rows(&self, scope: Scope, flow: u32, rows: &mut Vec<LossRow>)
+        requires scope { IsScope self.now.plan scope }
+        requires flow { flow < self.now.plan.flows }
+        requires room { self.now.plan.end - self.now.plan.first ≤ vec_capacity rows.old }
+        ensures rows { rows.new.items ≡ flow_rows self.now scope flow }
+        ensures room { vec_capacity rows.new ≡ vec_capacity rows.old }
+    {
+        rows.clear();
+        for block in self.first()..self.end() {
+            rows.push_reserved(self.row_at(scope, flow, block));
+        }
+    }
+
+    /// The row of a scope, a flow and a block.
+    #[inline(always)]
+    pub(crate) fn row_at(&self, scope: Scope, flow: u32, block: u64) -> LossRow
         requires scope { IsScope self.now.plan scope }
         requires there { HasRow self.now.plan flow block }
         ensures value { result ≡ loss_row self.now scope flow block }

@@ -158,6 +158,7 @@ impl Control {
     }
 
     /// The nodes where packets enter a scope.
+    #[inline(always)]
     pub(crate) fn entering(&self, scope: Scope) -> &[u32]
         requires { IsScope self.now.plan scope }
         ensures value { result.now ≡ entering self.now.plan scope }
@@ -170,6 +171,7 @@ impl Control {
     }
 
     /// The nodes where they leave it.
+    #[inline(always)]
     pub(crate) fn leaving(&self, scope: Scope) -> &[u32]
         requires { IsScope self.now.plan scope }
         ensures value { result.now ≡ leaving self.now.plan scope }
@@ -182,6 +184,7 @@ impl Control {
     }
 
     /// What passed the nodes of a side, of one flow and block.
+    #[inline(always)]
     pub(crate) fn passed(&self, side: &[u32], flow: u32, block: u64) -> Cell
         requires complete { IsComplete self.now }
         requires side { IsSide (length self.now.reports) side.now }
@@ -206,6 +209,7 @@ impl Control {
     }
 
     // The cell of a flow and block at a node.
+    #[inline(always)]
     fn cell(&self, node: u32, flow: u32, block: u64) -> Cell
         requires complete { IsComplete self.now }
         requires node { node < length self.now.reports }

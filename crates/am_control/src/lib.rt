@@ -14,6 +14,7 @@ mod error;
 mod laws;
 mod row;
 mod sides;
+mod tail;
 #[cfg(test)]
 mod tests;
 mod write;

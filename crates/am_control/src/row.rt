@@ -38,6 +38,7 @@ pub struct LossRow {
 }
 
 // The row of what entered and what left.
+#[inline(always)]
 pub(crate) fn row_of(scope: Scope, flow: u32, block: u64, came: &Cell, went: &Cell) -> LossRow
     requires came { FitsRow came.now }
     requires went { FitsRow went.now }
@@ -58,6 +59,7 @@ pub(crate) fn row_of(scope: Scope, flow: u32, block: u64, came: &Cell, went: &Ce
 }
 
 // The delay of so many packets, from the sums of their offsets.
+#[inline(always)]
 fn delay_of(entered: u64, left: u64, in_sum: u128, out_sum: u128) -> Option<i128>
     requires came { in_sum < 2 ^ 127 }
     requires went { out_sum < 2 ^ 127 }

@@ -1,19 +1,23 @@
 //! The loss table as text.
 
-ghost use Rattle.std.specs.Prelude.{◌≡◌, ◌<◌, ◌≤◌, ◌++◌, Option, OnOk, OnErr, IfOk, IfErr, length, codes, decimal, string_bytes};
+ghost use Rattle.std.specs.Prelude.{◌≡◌, ◌+◌, ◌-◌, ◌<◌, ◌≤◌, ◌++◌, OnOk, OnErr, IfErr, length, flat_map, vec_capacity};
 ghost use Rattle.std.specs.Io.KnownBytes.{append_known};
-ghost use Rattle.std.specs.Fmt.{signed_decimal};
-ghost use Rattle.am_base.specs.Sinks.{AppendsFront};
+ghost use Rattle.am_base.specs.Counts.{Rose};
+ghost use Rattle.am_base.specs.Sinks.{AppendsFront, HandsIn, BreaksOff};
+ghost use Rattle.am_domain.specs.Rules.{Each};
+ghost use Rattle.am_domain.specs.Texts.{IsName};
+ghost use Rattle.am_control.specs.Controls.{IsScope};
 ghost use Rattle.am_control.specs.Plans.{IsPlanOf};
+ghost use Rattle.am_control.specs.Rows.{scope_rows, loss_rows};
 ghost use Rattle.am_control.specs.Writing.{FaultRose};
-ghost use Rattle.am_control.specs.Texts.{loss_line, loss_text, scope_text, delay_text, named_flow};
+ghost use Rattle.am_control.specs.Texts.{loss_line, loss_text, line_start, line_rest, scope_text, delay_text};
 
 use crate::closed::Closed;
 use crate::row::{LossRow, Scope};
-use am_base::{Buffer, OutError, Sink};
+use crate::tail::{MAX_TAIL, Tail};
+use am_base::{Buffer, Fault, OutError, Sink};
 use am_domain::{Domain, Flow};
-use std::alloc::{AllocError, Global};
-use std::fmt::Write;
+use std::alloc::Global;
 
 /// The first line of the table: the names of its columns.
 const COLUMNS: &str = "scope,flow,block,in,out,lost,delay,din,dout,ddelay\n";
@@ -38,87 +42,167 @@ pub fn write_loss<O: Sink>(
     let Ok(mut buffer) = Buffer::new(alloc) else {
         return Err(OutError::Memory);
     };
+    let Ok(mut rows) = Vec::with_capacity(alloc, (closed.end() - closed.first()) as usize) else {
+        return Err(OutError::Memory);
+    };
     let Ok(()) = buffer.write(out, COLUMNS.as_bytes()) else {
         return Err(OutError::Fault);
     };
-    for k in 0..closed.rows() {
-        let row = closed.row(k);
-        let Ok(line) = line_of(alloc, domain.flows(), &row) else {
-            return Err(OutError::Memory);
-        };
-        let Ok(()) = buffer.write(out, line.as_bytes()) else {
-            return Err(OutError::Fault);
-        };
-    }
+    let Ok(()) = write_rows(domain.flows(), closed, &mut rows, &mut buffer, out) else {
+        return Err(OutError::Fault);
+    };
     match buffer.flush(out) {
         Ok(()) => Ok(()),
         Err(_) => Err(OutError::Fault),
     }
 }
 
-// The line of a row.
-fn line_of(alloc: Global, flows: &[Flow], row: &LossRow) -> Result<String, AllocError>
-    requires { row.now.flow < length flows.now }
-    ensures { IfOk result (λ text. string_bytes text ≡ loss_line flows.now row.now) }
+// Hands in the lines of all rows: those of each cluster, then of the network. There is room for the rows of a flow.
+fn write_rows<O: Sink>(
+    flows: &[Flow],
+    closed: &Closed<'_>,
+    rows: &mut Vec<LossRow>,
+    buffer: &mut Buffer,
+    out: &mut O,
+) -> Result<(), Fault>
+    requires flows { length flows.now ≡ closed.now.plan.flows }
+    requires names { Each (λ f. IsName f.name) flows.now }
+    requires room { closed.now.plan.end - closed.now.plan.first ≤ vec_capacity rows.old }
+    ensures all { OnOk result (HandsIn (O.written out.old) buffer.old
+        (flat_map (loss_line flows.now) (loss_rows closed.now)) (O.written out.new) buffer.new) }
+    ensures front { OnErr result (BreaksOff (O.written out.old) buffer.old
+        (flat_map (loss_line flows.now) (loss_rows closed.now)) (O.written out.new)) }
+    ensures failed { OnErr result (Rose (O.faults out.old) (O.faults out.new)) }
+    ensures faults_stay { O.faults out.old ≤ O.faults out.new }
 {
-    let mut text = String::new(alloc);
-    push_scope(&mut text, row.scope)?;
-    push_name(&mut text, flows, row.flow)?;
-    push_number(&mut text, row.block)?;
-    push_number(&mut text, row.entered)?;
-    push_number(&mut text, row.left)?;
-    push_lost(&mut text, row.lost)?;
-    push_delay(&mut text, row.delay)?;
-    push_number(&mut text, row.d_entered)?;
-    push_number(&mut text, row.d_left)?;
-    push_delay(&mut text, row.d_delay)?;
-    text.push_str("\n")?;
-    Ok(text)
+    for cluster in 0..closed.clusters() {
+        let Ok(()) = write_scope(flows, closed, Scope::Cluster(cluster), rows, buffer, out) else {
+            return Err(Fault);
+        };
+    }
+    write_scope(flows, closed, Scope::Network, rows, buffer, out)
 }
 
-// Adds a cluster's number, or the word for the network.
-fn push_scope(text: &mut String, scope: Scope) -> Result<(), AllocError>
-    ensures { OnOk result (string_bytes text.new ≡ string_bytes text.old ++ scope_text scope) }
+// Hands in the lines of a scope's rows: those of each flow. There is room for the rows of a flow.
+fn write_scope<O: Sink>(
+    flows: &[Flow],
+    closed: &Closed<'_>,
+    scope: Scope,
+    rows: &mut Vec<LossRow>,
+    buffer: &mut Buffer,
+    out: &mut O,
+) -> Result<(), Fault>
+    requires flows { length flows.now ≡ closed.now.plan.flows }
+    requires names { Each (λ f. IsName f.name) flows.now }
+    requires room { closed.now.plan.end - closed.now.plan.first ≤ vec_capacity rows.old }
+    requires scope { IsScope closed.now.plan scope }
+    ensures all { OnOk result (HandsIn (O.written out.old) buffer.old
+        (flat_map (loss_line flows.now) (scope_rows closed.now scope))
+        (O.written out.new) buffer.new) }
+    ensures front { OnErr result (BreaksOff (O.written out.old) buffer.old
+        (flat_map (loss_line flows.now) (scope_rows closed.now scope)) (O.written out.new)) }
+    ensures failed { OnErr result (Rose (O.faults out.old) (O.faults out.new)) }
+    ensures faults_stay { O.faults out.old ≤ O.faults out.new }
+    ensures room { vec_capacity rows.new ≡ vec_capacity rows.old }
 {
-    match scope {
-        Scope::Cluster(k) => write!(text, "{k}"),
-        Scope::Network => text.push_str("network"),
+    for flow in 0..closed.flows() {
+        let mut start = Tail::new();
+        put_start(&mut start, flows, scope, flow);
+        closed.put_rows(scope, flow, rows);
+        let Ok(()) = write_flow(rows.as_slice(), start.text(), buffer, out) else {
+            return Err(Fault);
+        };
+    }
+    Ok(())
+}
+
+// Hands in the lines of rows, each of which begins like this.
+fn write_flow<O: Sink>(
+    rows: &[LossRow],
+    start: &[u8],
+    buffer: &mut Buffer,
+    out: &mut O,
+) -> Result<(), Fault>
+    requires short { length start.now ≤ 64 }
+    ensures all { OnOk result (HandsIn (O.written out.old) buffer.old
+        (flat_map (λ r. start.now ++ line_rest r) rows.now) (O.written out.new) buffer.new) }
+    ensures front { OnErr result (BreaksOff (O.written out.old) buffer.old
+        (flat_map (λ r. start.now ++ line_rest r) rows.now) (O.written out.new)) }
+    ensures failed { OnErr result (Rose (O.faults out.old) (O.faults out.new)) }
+    ensures faults_stay { O.faults out.old ≤ O.faults out.new }
+{
+    let mut tail = Tail::new();
+    for row in rows {
+        tail.clear();
+        put_rest(&mut tail, row);
+        tail.put_all(start);
+        let Ok(()) = buffer.write(out, tail.text()) else {
+            return Err(Fault);
+        };
+    }
+    Ok(())
+}
+
+// Puts what stands in the line of a row behind its scope and flow.
+fn put_rest(tail: &mut Tail, row: &LossRow)
+    requires { length tail.old + 228 ≤ MAX_TAIL }
+    ensures text { tail.new ≡ line_rest row.now ++ tail.old }
+    ensures room { length tail.new ≤ length tail.old + 228 }
+{
+    tail.put(b'\n');
+    put_delay(tail, row.d_delay);
+    tail.put(b',');
+    tail.put_number(row.d_left);
+    tail.put(b',');
+    tail.put_number(row.d_entered);
+    tail.put(b',');
+    put_delay(tail, row.delay);
+    tail.put(b',');
+    tail.put_signed(i128::from(row.lost));
+    tail.put(b',');
+    tail.put_number(row.left);
+    tail.put(b',');
+    tail.put_number(row.entered);
+    tail.put(b',');
+    tail.put_number(row.block);
+}
+
+// Puts a delay, or a hyphen where there is none.
+#[inline(always)]
+fn put_delay(tail: &mut Tail, delay: Option<i128>)
+    requires { length tail.old + 40 ≤ MAX_TAIL }
+    ensures text { tail.new ≡ delay_text delay ++ tail.old }
+    ensures room { length tail.new ≤ length tail.old + 40 }
+{
+    match delay {
+        Some(delay) => tail.put_signed(delay),
+        None => tail.put(b'-'),
     }
 }
 
-// Adds the name of the flow of this number, behind a comma.
-fn push_name(text: &mut String, flows: &[Flow], number: u32) -> Result<(), AllocError>
-    requires { number < length flows.now }
-    ensures { OnOk result (string_bytes text.new
-        ≡ string_bytes text.old ++ (codes "," ++ named_flow flows.now number)) }
+// Puts how the lines of a flow in a scope begin.
+fn put_start(tail: &mut Tail, flows: &[Flow], scope: Scope, flow: u32)
+    requires flow { flow < length flows.now }
+    requires names { Each (λ f. IsName f.name) flows.now }
+    requires room { length tail.old + 64 ≤ MAX_TAIL }
+    ensures text { tail.new ≡ line_start flows.now scope flow ++ tail.old }
+    ensures room { length tail.new ≤ length tail.old + 64 }
 {
-    text.push_str(",")?;
-    text.push_str(flows[number as usize].name())
+    let name = flows[flow as usize].name();
+    tail.put(b',');
+    tail.put_all(name.as_bytes());
+    tail.put(b',');
+    put_scope(tail, scope);
 }
 
-// Adds a number, behind a comma.
-fn push_number(text: &mut String, number: u64) -> Result<(), AllocError>
-    ensures { OnOk result
-        (string_bytes text.new ≡ string_bytes text.old ++ (codes "," ++ decimal number)) }
+// Puts a cluster's number, or the word for the network.
+fn put_scope(tail: &mut Tail, scope: Scope)
+    requires { length tail.old + 20 ≤ MAX_TAIL }
+    ensures text { tail.new ≡ scope_text scope ++ tail.old }
+    ensures room { length tail.new ≤ length tail.old + 20 }
 {
-    write!(text, ",{number}")
-}
-
-// Adds how many were lost, behind a comma.
-fn push_lost(text: &mut String, lost: i64) -> Result<(), AllocError>
-    ensures { OnOk result
-        (string_bytes text.new ≡ string_bytes text.old ++ (codes "," ++ signed_decimal lost)) }
-{
-    write!(text, ",{lost}")
-}
-
-// Adds a delay, or a hyphen where there is none, behind a comma.
-fn push_delay(text: &mut String, delay: Option<i128>) -> Result<(), AllocError>
-    ensures { OnOk result
-        (string_bytes text.new ≡ string_bytes text.old ++ (codes "," ++ delay_text delay)) }
-{
-    match delay {
-        Some(delay) => write!(text, ",{delay}"),
-        None => text.push_str(",-"),
+    match scope {
+        Scope::Cluster(k) => tail.put_number(u64::from(k)),
+        Scope::Network => tail.put_all(b"network"),
     }
 }
