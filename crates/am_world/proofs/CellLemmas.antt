@@ -6,6 +6,7 @@ use Rattle.std.proofs.lemmas.Bool.Decides.{nat_tests}
 use Rattle.std.proofs.lemmas.Int.{ints}
 use Rattle.std.proofs.lemmas.List.Sums.{sum_by-cons}
 use Rattle.am_clock.specs.Times.{Times, in_window, parity}
+use Rattle.am_domain.specs.Network.{has_links_in, has_links_out}
 use Rattle.am_domain.specs.Values.{FlowValue}
 use Rattle.am_domain.specs.Domains.{DomainValue, IsLawful, Reports}
 use Rattle.am_graph.specs.Lists.{Ascends, list_at}
@@ -13,8 +14,8 @@ use Rattle.am_graph.specs.Clusters.{count_of}
 use Rattle.am_cells.specs.declared.cell.Cell.{Cell}
 use Rattle.am_meter.specs.declared.stream.Marked.{Marked}
 use Rattle.am_meter.specs.Metering.{counts_in, delays_in, node_shift, origin, offset_in, cell_of}
-use Rattle.am_control.specs.declared.row.Scope.TheVariants.{Cluster}
-use Rattle.am_control.specs.Plans.{IsPlanOf}
+use Rattle.am_control.specs.declared.row.Scope.TheVariants.{Cluster, Network}
+use Rattle.am_control.specs.Plans.{nodes_without, IsPlanOf}
 use Rattle.am_control.specs.Rows.{Measured, node_cell, side_cell, loss_row}
 use Rattle.am_world.specs.declared.event.Event.{Event}
 use Rattle.am_world.specs.Events.{event_reading}
@@ -22,7 +23,7 @@ use Rattle.am_world.specs.Passes.{passes_sent, sends, sends_delayed, is_sent}
 use Rattle.am_world.specs.Drops.{is_among, is_start, is_end, is_inside, hops_over, hopped_over, dropped_at}
 use Rattle.am_world.specs.Laws.{AreAttributed}
 use Rattle.am_world.specs.Losses.{AreRecorded, IsCountedFrom}
-use Rattle.am_world.specs.Delays.{DifferByAtMost, total_over}
+use Rattle.am_world.specs.Delays.{DifferByAtMost, total_over, total_on_way}
 use Rattle.am_world.proofs.SumLemmas.{sum-both, sum-same, sum-passing, weigh-one}
 use Rattle.am_world.proofs.JourneyLemmas.{IsOfSends}
 use Rattle.am_world.proofs.ClusterLemmas.{cluster-sides, entry-no-end}
@@ -32,6 +33,8 @@ use Rattle.am_world.proofs.CountingLemmas.{counted-all, counted-delayed}
 use Rattle.am_world.proofs.LawLemmas.{sends-only, delayed-only}
 use Rattle.am_world.proofs.DropLemmas.{passed-side, none-waits}
 use Rattle.am_world.proofs.DelayLemmas.{all-close, total-over-is}
+use Rattle.am_world.proofs.WayLemmas.{AreOuter, all-ways, total-way-is}
+use Rattle.am_world.proofs.OuterLemmas.{without-from, without-ascends, nodes-outer}
 
 -- a product of a sum
 sum-times : {X : Type 0} (f : X → ℕ) (n : ℕ) (xs : List X) → sum_by (λ x. f x * n) xs ≡ sum_by f xs * n
@@ -74,16 +77,15 @@ module _ (d : DomainValue) (m : Measured) (events : List Event) (captures : ℕ 
     → count v ≡ sum_by (λ e. cond (passes_sent d.links (λ n. eqb n v) so events e) 1 0) events)
     (readings : (v : ℕ) → v < length d.nodes
     → sum_by (λ e. cond (passes_sent d.links (λ n. eqb n v) so events e) (event_reading e) 0) events
-    ≡ offsets v + count v * origin d.times block)
-    (k : ℕ) (within : k < count_of m.plan.clusters) where
-  start-within : (v : ℕ) → Contains (list_at m.plan.clusters.starts k) v → v < length d.nodes
-  start-within v h =
+    ≡ offsets v + count v * origin d.times block) where
+  start-within : (k : ℕ) → k < count_of m.plan.clusters → (v : ℕ) → Contains (list_at m.plan.clusters.starts k) v → v < length d.nodes
+  start-within k within v h =
       let at = ((of.clusters.starts k within).has v).0 h in
       subst (λ n. n < length d.nodes) at.2
       (lawful.links_within at.0 (record { from = 0; to = 0 }) (omega (arith, at.1.within, of.clusters.each))).0
 
-  end-within : (v : ℕ) → Contains (list_at m.plan.clusters.ends k) v → v < length d.nodes
-  end-within v h =
+  end-within : (k : ℕ) → k < count_of m.plan.clusters → (v : ℕ) → Contains (list_at m.plan.clusters.ends k) v → v < length d.nodes
+  end-within k within v h =
       let at = ((of.clusters.ends k within).has v).0 h in
       subst (λ n. n < length d.nodes) at.2
       (lawful.links_within at.0 (record { from = 0; to = 0 }) (omega (arith, at.1.within, of.clusters.each))).1
@@ -107,22 +109,22 @@ module _ (d : DomainValue) (m : Measured) (events : List Event) (captures : ℕ 
       ∙ ap (λ n. sum_by offsets side + n) (sum-times count (origin d.times block) side)
 
   -- where as many left as entered, the sums of the offsets differ by how long the packets took
-  pub offsets-tell : sum_by count (list_at m.plan.clusters.starts k) ≡ sum_by count (list_at m.plan.clusters.ends k)
+  pub offsets-tell : (k : ℕ) → k < count_of m.plan.clusters → sum_by count (list_at m.plan.clusters.starts k) ≡ sum_by count (list_at m.plan.clusters.ends k)
       → DifferByAtMost
       (pos (sum_by offsets (list_at m.plan.clusters.ends k)) -ℤ pos (sum_by offsets (list_at m.plan.clusters.starts k)))
       (total_over (is_inside m.plan.clusters k) so events)
       (sum_by count (list_at m.plan.clusters.ends k) * d.times.skew)
-  offsets-tell even =
+  offsets-tell k within even =
       let c = m.plan.clusters in
       let starts = of.clusters.starts k within in
       let ends = of.clusters.ends k within in
       let sides = cluster-sides d c of.clusters k within in
       let entries = entry-no-end d c of.clusters k within in
       let journeys = recorded.valid.journeys in
-      let came = side-counts (list_at c.starts k) starts.ascends start-within in
-      let went = side-counts (list_at c.ends k) ends.ascends end-within in
-      let came_read = side-readings (list_at c.starts k) starts.ascends start-within in
-      let went_read = side-readings (list_at c.ends k) ends.ascends end-within in
+      let came = side-counts (list_at c.starts k) starts.ascends (start-within k within) in
+      let went = side-counts (list_at c.ends k) ends.ascends (end-within k within) in
+      let came_read = side-readings (list_at c.starts k) starts.ascends (start-within k within) in
+      let went_read = side-readings (list_at c.ends k) ends.ascends (end-within k within) in
       let in' = starts-conserved d (is_inside c k) (is_start c k) (is_end c k) sides entries so alone events journeys in
       let out = ends-conserved d (is_inside c k) (is_start c k) (is_end c k) sides entries so alone events journeys in
       let none = none-waits d c of.clusters k within so events recorded.valid.over in
@@ -135,6 +137,40 @@ module _ (d : DomainValue) (m : Measured) (events : List Event) (captures : ℕ 
       let skew : sum_by (λ e. cond (hops_over (is_inside c k) e && is_sent so events e) d.times.skew 0) events
       ≡ sum_by count (list_at c.ends k) * d.times.skew = skews ∙ ap (λ n. n * d.times.skew) (sym hops) in
       let same : sum_by count (list_at c.starts k) * origin d.times block ≡ sum_by count (list_at c.ends k) * origin d.times block
+      = ap (λ n. n * origin d.times block) even in
+      record {
+        above = omega (arith, ints, total, came_read, went_read, same, skew, close.above);
+        below = omega (arith, ints, total, came_read, went_read, same, skew, close.below);
+      }
+
+  -- where as many left the network as entered it, they differ by how long the packets were on their way
+  pub way-tells : sum_by count m.plan.entries ≡ sum_by count m.plan.exits
+      → DifferByAtMost (pos (sum_by offsets m.plan.exits) -ℤ pos (sum_by offsets m.plan.entries))
+      (total_on_way d.links so events) (sum_by count m.plan.exits * d.times.skew)
+  way-tells even =
+      let entries = m.plan.entries in
+      let exits = m.plan.exits in
+      let outer : AreOuter d (is_among entries) (is_among exits) = rw (of.entries, of.exits) (nodes-outer d lawful) in
+      let in-nodes = λ (has : ℕ → Bool) (v : ℕ) (h : Contains (nodes_without has (length d.nodes)) v).
+      (without-from has (length d.nodes) v h).0 in
+      let entries-up : Ascends entries = subst Ascends (sym of.entries) (without-ascends (has_links_in d.links) (length d.nodes)) in
+      let exits-up : Ascends exits = subst Ascends (sym of.exits) (without-ascends (has_links_out d.links) (length d.nodes)) in
+      let entry-within = λ (v : ℕ) (h : Contains entries v).
+      in-nodes (has_links_in d.links) v (subst (λ side. Contains side v) of.entries h) in
+      let exit-within = λ (v : ℕ) (h : Contains exits v).
+      in-nodes (has_links_out d.links) v (subst (λ side. Contains side v) of.exits h) in
+      let journeys = recorded.valid.journeys in
+      let came = side-counts entries entries-up entry-within in
+      let went = side-counts exits exits-up exit-within in
+      let came_read = side-readings entries entries-up entry-within in
+      let went_read = side-readings exits exits-up exit-within in
+      let close = all-ways d (is_among entries) (is_among exits) outer so alone events journeys recorded.timed.clocks
+      (sym came ∙ even ∙ went) in
+      let total = total-way-is d (is_among entries) (is_among exits) outer so alone events journeys in
+      let skews = weigh-one d.times.skew (passes_sent d.links (is_among exits) so events) events in
+      let skew : sum_by (λ e. cond (passes_sent d.links (is_among exits) so events e) d.times.skew 0) events
+      ≡ sum_by count exits * d.times.skew = skews ∙ ap (λ n. n * d.times.skew) (sym went) in
+      let same : sum_by count entries * origin d.times block ≡ sum_by count exits * origin d.times block
       = ap (λ n. n * origin d.times block) even in
       record {
         above = omega (arith, ints, total, came_read, went_read, same, skew, close.above);
@@ -158,6 +194,55 @@ module _ (d : DomainValue) (m : Measured) (events : List Event) (captures : ℕ 
       → node_cell m.cells flow block v ≡ cell_of d.times flow_id (node_shift d v) block (captures v)
   the-cell v below = (counted v below).cells flow block some_flow flow_within reported
 
+  -- what the cells of a node count and sum up, of all packets and of those with the delay bit
+  abbrev count_at : ℕ → ℕ
+  count_at v = (node_cell m.cells flow block v).count
+
+  abbrev sum_at : ℕ → ℕ
+  sum_at v = (node_cell m.cells flow block v).sum
+
+  abbrev d_count_at : ℕ → ℕ
+  d_count_at v = (node_cell m.cells flow block v).dcount
+
+  abbrev d_sum_at : ℕ → ℕ
+  d_sum_at v = (node_cell m.cells flow block v).dsum
+
+  counts-all : (v : ℕ) → v < length d.nodes
+      → count_at v ≡ sum_by (λ e. cond (passes_sent d.links (λ n. eqb n v) (sends d.times flow block) events e) 1 0) events
+  counts-all v below =
+      ap (λ (c : Cell). c.count) (the-cell v below)
+      ∙ counted-all d lawful events recorded.valid.journeys passing v below (captures v) (recorded.each v below)
+      flow block some_flow flow_within reported (λ _. 1)
+
+  readings-all : (v : ℕ) → v < length d.nodes
+      → sum_by (λ e. cond (passes_sent d.links (λ n. eqb n v) (sends d.times flow block) events e) (event_reading e) 0) events
+      ≡ sum_at v + count_at v * origin d.times block
+  readings-all v below =
+      sym (counted-all d lawful events recorded.valid.journeys passing v below (captures v) (recorded.each v below)
+      flow block some_flow flow_within reported (λ r. r))
+      ∙ readings-apart d.times block (counts_in d.times flow_id (node_shift d v) block) (captures v)
+      (counts-after d.times flow_id (node_shift d v) block)
+      ∙ ap (λ (c : Cell). c.sum + c.count * origin d.times block) (sym (the-cell v below))
+
+  counts-delayed : (v : ℕ) → v < length d.nodes
+      → d_count_at v
+      ≡ sum_by (λ e. cond (passes_sent d.links (λ n. eqb n v) (sends_delayed d.times flow block) events e) 1 0) events
+  counts-delayed v below =
+      ap (λ (c : Cell). c.dcount) (the-cell v below)
+      ∙ counted-delayed d lawful events recorded.valid.journeys passing v below (captures v) (recorded.each v below)
+      flow block some_flow flow_within reported (λ _. 1)
+
+  readings-delayed : (v : ℕ) → v < length d.nodes
+      → sum_by (λ e. cond (passes_sent d.links (λ n. eqb n v) (sends_delayed d.times flow block) events e) (event_reading e) 0) events
+      ≡ d_sum_at v + d_count_at v * origin d.times block
+  readings-delayed v below =
+      sym (counted-delayed d lawful events recorded.valid.journeys passing v below (captures v) (recorded.each v below)
+      flow block some_flow flow_within reported (λ r. r))
+      ∙ readings-apart d.times block (delays_in d.times flow_id (node_shift d v) block) (captures v)
+      (λ r h. counts-after d.times flow_id (node_shift d v) block r
+      (and_parts (counts_in d.times flow_id (node_shift d v) block r) r.mark.delay h).0)
+      ∙ ap (λ (c : Cell). c.dsum + c.dcount * origin d.times block) (sym (the-cell v below))
+
   -- of a cluster's row, the delay and that of the packets with the delay bit
   pub cluster-delay : (k : ℕ) → k < count_of m.plan.clusters
       → IfSome (loss_row m (Cluster k) flow block).delay (λ delay.
@@ -165,22 +250,10 @@ module _ (d : DomainValue) (m : Measured) (events : List Event) (captures : ℕ 
       ((loss_row m (Cluster k) flow block).left * d.times.skew))
   unfolding loss_row side_cell
   cluster-delay k within =
-      let count = λ (v : ℕ). (node_cell m.cells flow block v).count in
-      let offsets = λ (v : ℕ). (node_cell m.cells flow block v).sum in
-      let counts = λ (v : ℕ) (below : v < length d.nodes).
-      ap (λ (c : Cell). c.count) (the-cell v below)
-      ∙ counted-all d lawful events recorded.valid.journeys passing v below (captures v) (recorded.each v below)
-      flow block some_flow flow_within reported (λ _. 1) in
-      let readings = λ (v : ℕ) (below : v < length d.nodes).
-      sym (counted-all d lawful events recorded.valid.journeys passing v below (captures v) (recorded.each v below)
-      flow block some_flow flow_within reported (λ r. r))
-      ∙ readings-apart d.times block (counts_in d.times flow_id (node_shift d v) block) (captures v)
-      (counts-after d.times flow_id (node_shift d v) block)
-      ∙ ap (λ (c : Cell). c.sum + c.count * origin d.times block) (sym (the-cell v below)) in
-      elim (cases_Bool (eqb (sum_by count (list_at m.plan.clusters.starts k)) (sum_by count (list_at m.plan.clusters.ends k)))) [
+      elim (cases_Bool (eqb (sum_by count_at (list_at m.plan.clusters.starts k)) (sum_by count_at (list_at m.plan.clusters.ends k)))) [
         | inl even ↦ rw even (offsets-tell d m events captures flow block lawful of recorded (sends d.times flow block)
-            (sends-only d.times flow block) count offsets counts readings k within
-            (eqb-true (sum_by count (list_at m.plan.clusters.starts k)) (sum_by count (list_at m.plan.clusters.ends k)) even))
+            (sends-only d.times flow block) count_at sum_at counts-all readings-all k within
+            (eqb-true (sum_by count_at (list_at m.plan.clusters.starts k)) (sum_by count_at (list_at m.plan.clusters.ends k)) even))
         | inr odd ↦ rw odd tt
       ]
 
@@ -190,22 +263,34 @@ module _ (d : DomainValue) (m : Measured) (events : List Event) (captures : ℕ 
       ((loss_row m (Cluster k) flow block).d_left * d.times.skew))
   unfolding loss_row side_cell
   cluster-d_delay k within =
-      let count = λ (v : ℕ). (node_cell m.cells flow block v).dcount in
-      let offsets = λ (v : ℕ). (node_cell m.cells flow block v).dsum in
-      let counts = λ (v : ℕ) (below : v < length d.nodes).
-      ap (λ (c : Cell). c.dcount) (the-cell v below)
-      ∙ counted-delayed d lawful events recorded.valid.journeys passing v below (captures v) (recorded.each v below)
-      flow block some_flow flow_within reported (λ _. 1) in
-      let readings = λ (v : ℕ) (below : v < length d.nodes).
-      sym (counted-delayed d lawful events recorded.valid.journeys passing v below (captures v) (recorded.each v below)
-      flow block some_flow flow_within reported (λ r. r))
-      ∙ readings-apart d.times block (delays_in d.times flow_id (node_shift d v) block) (captures v)
-      (λ r h. counts-after d.times flow_id (node_shift d v) block r
-      (and_parts (counts_in d.times flow_id (node_shift d v) block r) r.mark.delay h).0)
-      ∙ ap (λ (c : Cell). c.dsum + c.dcount * origin d.times block) (sym (the-cell v below)) in
-      elim (cases_Bool (eqb (sum_by count (list_at m.plan.clusters.starts k)) (sum_by count (list_at m.plan.clusters.ends k)))) [
+      elim (cases_Bool (eqb (sum_by d_count_at (list_at m.plan.clusters.starts k)) (sum_by d_count_at (list_at m.plan.clusters.ends k)))) [
         | inl even ↦ rw even (offsets-tell d m events captures flow block lawful of recorded (sends_delayed d.times flow block)
-            (delayed-only d.times flow block) count offsets counts readings k within
-            (eqb-true (sum_by count (list_at m.plan.clusters.starts k)) (sum_by count (list_at m.plan.clusters.ends k)) even))
+            (delayed-only d.times flow block) d_count_at d_sum_at counts-delayed readings-delayed k within
+            (eqb-true (sum_by d_count_at (list_at m.plan.clusters.starts k)) (sum_by d_count_at (list_at m.plan.clusters.ends k)) even))
+        | inr odd ↦ rw odd tt
+      ]
+
+  -- and of the network's row
+  pub network-delay : IfSome (loss_row m Network flow block).delay (λ delay.
+      DifferByAtMost delay (total_on_way d.links (sends d.times flow block) events)
+      ((loss_row m Network flow block).left * d.times.skew))
+  unfolding loss_row side_cell
+  network-delay =
+      elim (cases_Bool (eqb (sum_by count_at m.plan.entries) (sum_by count_at m.plan.exits))) [
+        | inl even ↦ rw even (way-tells d m events captures flow block lawful of recorded (sends d.times flow block)
+            (sends-only d.times flow block) count_at sum_at counts-all readings-all
+            (eqb-true (sum_by count_at m.plan.entries) (sum_by count_at m.plan.exits) even))
+        | inr odd ↦ rw odd tt
+      ]
+
+  pub network-d_delay : IfSome (loss_row m Network flow block).d_delay (λ delay.
+      DifferByAtMost delay (total_on_way d.links (sends_delayed d.times flow block) events)
+      ((loss_row m Network flow block).d_left * d.times.skew))
+  unfolding loss_row side_cell
+  network-d_delay =
+      elim (cases_Bool (eqb (sum_by d_count_at m.plan.entries) (sum_by d_count_at m.plan.exits))) [
+        | inl even ↦ rw even (way-tells d m events captures flow block lawful of recorded (sends_delayed d.times flow block)
+            (delayed-only d.times flow block) d_count_at d_sum_at counts-delayed readings-delayed
+            (eqb-true (sum_by d_count_at m.plan.entries) (sum_by d_count_at m.plan.exits) even))
         | inr odd ↦ rw odd tt
       ]

@@ -1,4 +1,4 @@
--- What the capture of a node counts of a reported block: the packets that were sent in it and passed the node.
+-- What the capture of a node counts of a block that it covers: the packets that were sent in it and passed the node.
 use Rattle.std.proofs.Common.{◌≡◌, ◌≢◌, ◌∙◌, ℕ, ◌+◌, ◌%◌, ◌<◌, Bool, true, false, cond, eqb, ◌&&◌, List, [], ◌∷◌, length, refl, sym, ap, subst, arith, inl, inr}
 use Rattle.std.specs.Prelude.{All, Contains, IsTrue, ◌↔◌, ◌⊎◌, sum_by, count_by, slice_index_or}
 use Rattle.std.specs.List.{list_any}
@@ -16,6 +16,7 @@ use Rattle.am_world.specs.Events.{event_packet, event_reading, events_of}
 use Rattle.am_world.specs.Worlds.{IsJourney, AreJourneys}
 use Rattle.am_world.specs.Passes.{passes, block_at, sends, sends_delayed, sends_marked, is_bit, passes_sent, is_marked_so, passes_so, IsInSpan, Records}
 use Rattle.am_world.specs.Laws.{IsAttributed, AreAttributed}
+use Rattle.am_world.specs.LinkLosses.{CoversAt}
 use Rattle.am_world.proofs.SumLemmas.{sum-both, sum-same, sum-none, same-by-keys, from-filter}
 use Rattle.am_world.proofs.JourneyLemmas.{IsOfSends, travels-unsent}
 use Rattle.am_world.proofs.ConservationLemmas.{or-none}
@@ -51,10 +52,10 @@ colour-parity block = elim (cases_Bool (eqb (block % 2) 1)) [
 abbrev pub counts_bit : Times → ℕ → ℕ → ℕ → Bool → Marked → Bool
 counts_bit t id shift block delayed m = counts_in t id shift block m && is_bit m.mark.delay delayed
 
-module _ (d : DomainValue) (lawful : IsLawful d) (events : List Event) (journeys : AreJourneys d events)
-    (attributed : AreAttributed d events) (node : ℕ) (within : node < length d.nodes) (ms : List Marked)
+module _ (d : DomainValue) (events : List Event) (journeys : AreJourneys d events)
+    (attributed : AreAttributed d events) (node : ℕ) (ms : List Marked)
     (records : Records d events node ms) (flow block : ℕ) (f : FlowValue) (flow_within : flow < length d.flows)
-    (reported : Reports d block) (delayed : Bool) where
+    (covered : CoversAt d node block) (delayed : Bool) where
   -- the flow's number in marks, the node's shift and the block's colour
   abbrev pub id : ℕ
   id = (slice_index_or d.flows flow f).id
@@ -188,8 +189,8 @@ module _ (d : DomainValue) (lawful : IsLawful d) (events : List Event) (journeys
           ≡ sum_by (λ e. cond (in_window d.times v shift block && passes_so d events node v flow colour delayed e) 1 0) events
       middle (inl inside) =
           let span : IsInSpan d node v = record {
-            from = λ n. ((lawful.reported block).0 reported node n within v inside).0;
-            until = λ n. ((lawful.reported block).0 reported node n within v inside).1;
+            from = λ n. (covered n v inside).0;
+            until = λ n. (covered n v inside).1;
           } in
           rw inside (records v flow colour delayed f span flow_within)
       middle (inr outside) =
@@ -245,16 +246,16 @@ sent-split d flow block true n (Send p g w time sent bit ∷ es) j =
     (travels-unsent (sends_bit d.times flow block false) (bit-only d.times flow block false) d.links w es j.3) in
     rw (all, with', without) (split-bit (eqb g flow && eqb (block_at d.times sent) block) bit n)
 
-module _ (d : DomainValue) (lawful : IsLawful d) (events : List Event) (journeys : AreJourneys d events)
-    (attributed : AreAttributed d events) (node : ℕ) (within : node < length d.nodes) (ms : List Marked)
+module _ (d : DomainValue) (events : List Event) (journeys : AreJourneys d events)
+    (attributed : AreAttributed d events) (node : ℕ) (ms : List Marked)
     (records : Records d events node ms) (flow block : ℕ) (f : FlowValue) (flow_within : flow < length d.flows)
-    (reported : Reports d block) (weight : ℕ → ℕ) where
-  -- what the records of the block weigh
-  pub counted-all :
+    (covered : CoversAt d node block) (weight : ℕ → ℕ) where
+  -- what the records of a block weigh that the capture covers
+  pub covered-all :
       sum_by (λ m. cond (counts_in d.times (slice_index_or d.flows flow f).id (node_shift d node) block m) (weight m.reading) 0) ms
       ≡ sum_by (λ e. cond (passes_sent d.links (λ n. eqb n node) (sends d.times flow block) events e)
       (weight (event_reading e)) 0) events
-  counted-all =
+  covered-all =
       let id = (slice_index_or d.flows flow f).id in
       let shift = node_shift d node in
       let counts = λ (b : Bool) (m : Marked). cond (counts_bit d.times id shift block b m) (weight m.reading) 0 in
@@ -270,17 +271,17 @@ module _ (d : DomainValue) (lawful : IsLawful d) (events : List Event) (journeys
       (events_of events (event_packet e)) (journeys (event_packet e))) in
       let left_both = sum-both (counts true) (counts false) ms in
       let right_both = sum-both (passing true) (passing false) events in
-      let set = counted-bit d lawful events journeys attributed node within ms records flow block f flow_within reported true weight in
-      let unset = counted-bit d lawful events journeys attributed node within ms records flow block f flow_within reported false weight in
+      let set = counted-bit d events journeys attributed node ms records flow block f flow_within covered true weight in
+      let unset = counted-bit d events journeys attributed node ms records flow block f flow_within covered false weight in
       left ∙ left_both ∙ ap (λ n. n + sum_by (counts false) ms) set ∙ ap (λ n. sum_by (passing true) events + n) unset
       ∙ sym right_both ∙ sym right
 
   -- and those with the delay bit
-  pub counted-delayed :
+  pub covered-delayed :
       sum_by (λ m. cond (delays_in d.times (slice_index_or d.flows flow f).id (node_shift d node) block m) (weight m.reading) 0) ms
       ≡ sum_by (λ e. cond (passes_sent d.links (λ n. eqb n node) (sends_delayed d.times flow block) events e)
       (weight (event_reading e)) 0) events
-  counted-delayed =
+  covered-delayed =
       let id = (slice_index_or d.flows flow f).id in
       let shift = node_shift d node in
       let left = sum-same (λ m. cond (delays_in d.times id shift block m) (weight m.reading) 0)
@@ -293,7 +294,7 @@ module _ (d : DomainValue) (lawful : IsLawful d) (events : List Event) (journeys
       (λ e _. ap (λ b. cond (passes d.links (λ n. eqb n node) e && b) (weight (event_reading e)) 0)
       (any-agree (sends_bit d.times flow block true) (sends_delayed d.times flow block)
       (events_of events (event_packet e)) one)) in
-      left ∙ counted-bit d lawful events journeys attributed node within ms records flow block f flow_within reported true weight
+      left ∙ counted-bit d events journeys attributed node ms records flow block f flow_within covered true weight
       ∙ right
     where
       one : (x : Event) → sends_bit d.times flow block true x ≡ sends_delayed d.times flow block x
@@ -301,3 +302,26 @@ module _ (d : DomainValue) (lawful : IsLawful d) (events : List Event) (journeys
           ap (λ b. (eqb g flow && eqb (block_at d.times sent) block) && b) (is-set bit)
       one (Hop p link time reading) = refl
       one (Lost p) = refl
+
+module _ (d : DomainValue) (lawful : IsLawful d) (events : List Event) (journeys : AreJourneys d events)
+    (attributed : AreAttributed d events) (node : ℕ) (within : node < length d.nodes) (ms : List Marked)
+    (records : Records d events node ms) (flow block : ℕ) (f : FlowValue) (flow_within : flow < length d.flows)
+    (reported : Reports d block) (weight : ℕ → ℕ) where
+  -- each capture covers a reported block
+  abbrev reported-covered : CoversAt d node block
+  reported-covered = λ n. (lawful.reported block).0 reported node n within
+
+  -- so this holds of reported blocks
+  pub counted-all :
+      sum_by (λ m. cond (counts_in d.times (slice_index_or d.flows flow f).id (node_shift d node) block m) (weight m.reading) 0) ms
+      ≡ sum_by (λ e. cond (passes_sent d.links (λ n. eqb n node) (sends d.times flow block) events e)
+      (weight (event_reading e)) 0) events
+  counted-all =
+      covered-all d events journeys attributed node ms records flow block f flow_within reported-covered weight
+
+  pub counted-delayed :
+      sum_by (λ m. cond (delays_in d.times (slice_index_or d.flows flow f).id (node_shift d node) block m) (weight m.reading) 0) ms
+      ≡ sum_by (λ e. cond (passes_sent d.links (λ n. eqb n node) (sends_delayed d.times flow block) events e)
+      (weight (event_reading e)) 0) events
+  counted-delayed =
+      covered-delayed d events journeys attributed node ms records flow block f flow_within reported-covered weight

@@ -30,6 +30,15 @@ sum-le f g (x ∷ xs) each =
     let there = sum-le f g xs (λ y h. each y (suc h.0, omega (arith, h.1), h.2)) in
     omega (arith, sum_by-cons f x xs, sum_by-cons g x xs, here, there)
 
+-- a sum of differences is the difference of the sums
+pub signed-apart : (a b : Event → ℕ) (number : Event → ℤ) (xs : List Event) (z : ℤ)
+    → ((x : Event) → number x ≡ pos (a x) -ℤ pos (b x))
+    → fold ◌+ℤ◌ z (map number xs) ≡ z +ℤ (pos (sum_by a xs) -ℤ pos (sum_by b xs))
+signed-apart a b number [] z each = omega (arith, ints)
+signed-apart a b number (x ∷ xs) z each =
+    let rest = signed-apart a b number xs (z +ℤ number x) each in
+    rest ∙ omega (arith, ints, each x, sum_by-cons a x xs, sum_by-cons b x xs)
+
 -- over the hops of a packet, its readings rise as its times do, but for the skew at each hop
 record IsClose (t : Times) (inside : ℕ → Bool) (e : Event) (es : List Event) : Type 0 where
   above : hop_sum inside (λ _ hop. event_reading hop) e es + hop_sum inside (λ before _. event_time before) e es
@@ -92,7 +101,7 @@ time-over-is inside links node e (Lost p ∷ es) t =
     ∙ omega (arith, ints, ap (hop_sum inside (λ _ hop. event_time hop) e) t, ap (hop_sum inside (λ before _. event_time before) e) t)
 
 -- of a packet that travels on, no event is sent so
-weigh-none : (so : Event → Bool) → IsOfSends so → (n : ℕ) (links : List Edge) (node : ℕ) (es : List Event)
+pub weigh-none : (so : Event → Bool) → IsOfSends so → (n : ℕ) (links : List Edge) (node : ℕ) (es : List Event)
     → Travels links node es → sum_by (λ e. cond (so e) n 0) es ≡ 0
 weigh-none so alone n links node [] t = refl
 weigh-none so alone n links node (Send p f v time reading delay ∷ es) t = absurd t
@@ -258,19 +267,11 @@ module _ (d : DomainValue) (inside starts ends : ℕ → Bool) (sides : AreSides
       -ℤ pos (sum_by (λ e. before_at (events_of events (event_packet e)) e) events)
   unfolding hop_times times_before
   total-over-is events journeys =
-      apart (λ e. hopped_at (events_of events (event_packet e)) e) (λ e. before_at (events_of events (event_packet e)) e)
+      signed-apart (λ e. hopped_at (events_of events (event_packet e)) e) (λ e. before_at (events_of events (event_packet e)) e)
       (λ e. cond (so e) (time_over inside 0 (events_of events (event_packet e))) (pos 0)) events (pos 0)
       (λ e. one (so e) (events_of events (event_packet e)) (journeys (event_packet e)))
       ∙ omega (arith, ints)
     where
-      apart : (a b : Event → ℕ) (number : Event → ℤ) (xs : List Event) (z : ℤ)
-          → ((x : Event) → number x ≡ pos (a x) -ℤ pos (b x))
-          → fold ◌+ℤ◌ z (map number xs) ≡ z +ℤ (pos (sum_by a xs) -ℤ pos (sum_by b xs))
-      apart a b number [] z each = omega (arith, ints)
-      apart a b number (x ∷ xs) z each =
-          let rest = apart a b number xs (z +ℤ number x) each in
-          rest ∙ omega (arith, ints, each x, sum_by-cons a x xs, sum_by-cons b x xs)
-
       one : (b : Bool) (es : List Event) → IsJourney d es
           → cond b (time_over inside 0 es) (pos 0)
           ≡ pos (cond b (hop_times inside es) 0) -ℤ pos (cond b (times_before inside es) 0)

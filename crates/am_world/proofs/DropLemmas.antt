@@ -9,6 +9,7 @@ use Rattle.std.proofs.lemmas.List.FromFn.{length-range_with_len, get_or-range_wi
 use Rattle.std.proofs.lemmas.List.Sums.{sum_by-cons}
 use Rattle.am_domain.specs.declared.link.Edge.{Edge}
 use Rattle.am_domain.specs.Values.{FlowValue}
+use Rattle.am_domain.specs.Network.{has_links_out}
 use Rattle.am_domain.specs.Domains.{DomainValue, IsLawful, Reports}
 use Rattle.am_graph.specs.Lists.{Ascends, list_at}
 use Rattle.am_graph.specs.Graphs.{graph_of, start_of, end_of}
@@ -87,30 +88,36 @@ passed-side links so events weight side up =
     one (Hop p link time reading) sent a = among-once (end_of links link) a sent side up
     one (Lost p) sent a = sum-none side
 
--- of a valid world, no packet waits at a start of a cluster
-pub none-waits : (d : DomainValue) (c : ClustersValue) → AreClusters (graph_of d) c → (k : ℕ) → k < count_of c
+-- of a valid world, no packet waits at nodes at each of which a link begins
+pub none-stays : (d : DomainValue) (here : ℕ → Bool) → ((v : ℕ) → here v ≡ true → has_links_out d.links v ≡ true)
     → (so : Event → Bool) (events : List Event) → ((packet : ℕ) → IsOver d.links (events_of events packet))
-    → waiting_at d.links (is_start c k) so events ≡ 0
-none-waits d c of k within so events over =
-    sum-same (λ e. cond (so e && is_waiting d.links (is_start c k) (events_of events (event_packet e))) 1 0) (λ _. 0) events
-    (λ e _. ap (λ b. cond b 1 0) (and_right (so e) (is_waiting d.links (is_start c k) (events_of events (event_packet e)))
-    (false_from_ne_true (is_waiting d.links (is_start c k) (events_of events (event_packet e)))
+    → waiting_at d.links here so events ≡ 0
+none-stays d here leads so events over =
+    sum-same (λ e. cond (so e && is_waiting d.links here (events_of events (event_packet e))) 1 0) (λ _. 0) events
+    (λ e _. ap (λ b. cond b 1 0) (and_right (so e) (is_waiting d.links here (events_of events (event_packet e)))
+    (false_from_ne_true (is_waiting d.links here (events_of events (event_packet e)))
     (λ h. gone (events_of events (event_packet e)) (over (event_packet e)) h))))
     ∙ sum-none events
   where
     at-none : (es : List Event) → IsOver d.links es → list_any is_lost es ≡ false → (at : Option ℕ) → present d.links es ≡ at
-        → is_at (is_start c k) at ≡ true → ⊥
-    at-none es over' kept None here h = absurd (cc h)
-    at-none es over' kept (Some v) here h = false≢true (sym (over' v kept here) ∙ start-leads-on d c of k within v h)
+        → is_at here at ≡ true → ⊥
+    at-none es over' kept None is h = absurd (cc h)
+    at-none es over' kept (Some v) is h = false≢true (sym (over' v kept is) ∙ leads v h)
 
     kept-from : (b : Bool) → not b ≡ true → b ≡ false
     kept-from false h = refl
     kept-from true h = absurd (cc h)
 
-    gone : (es : List Event) → IsOver d.links es → is_waiting d.links (is_start c k) es ≡ true → ⊥
+    gone : (es : List Event) → IsOver d.links es → is_waiting d.links here es ≡ true → ⊥
     gone es over' h =
-        let both = and_parts (not (list_any is_lost es)) (is_at (is_start c k) (present d.links es)) h in
+        let both = and_parts (not (list_any is_lost es)) (is_at here (present d.links es)) h in
         at-none es over' (kept-from (list_any is_lost es) both.0) (present d.links es) refl both.1
+
+-- so none waits at a start of a cluster
+pub none-waits : (d : DomainValue) (c : ClustersValue) → AreClusters (graph_of d) c → (k : ℕ) → k < count_of c
+    → (so : Event → Bool) (events : List Event) → ((packet : ℕ) → IsOver d.links (events_of events packet))
+    → waiting_at d.links (is_start c k) so events ≡ 0
+none-waits d c of k within = none-stays d (is_start c k) (start-leads-on d c of k within)
 
 module _ (d : DomainValue) (m : Measured) (events : List Event) (captures : ℕ → List Marked) (flow block : ℕ)
     (lawful : IsLawful d) (of : IsPlanOf d m.plan) (counted : IsCountedFrom d captures m)

@@ -109,7 +109,7 @@ hops-are inside n links node e (Lost p ∷ es) t =
     omega (arith, more, none, no_hops)
 
 -- where a packet travels on, it does so for a while
-travels-front : (links : List Edge) (node : ℕ) (front rest : List Event) → Travels links node (front ++ rest)
+pub travels-front : (links : List Edge) (node : ℕ) (front rest : List Event) → Travels links node (front ++ rest)
     → Travels links node front
 travels-front links node [] rest t = tt
 travels-front links node (Send p f v time reading delay ∷ es) rest t = absurd t

@@ -7,3 +7,8 @@ pub mod Losses
 pub mod Delays
 pub mod Trips
 pub mod TrueLosses
+pub mod Breaches
+pub mod Captures
+pub mod Generating
+pub mod Making
+pub mod LinkLosses

@@ -3,19 +3,22 @@
 //! A law is a function without a body. A call of it does nothing when the program runs: it is there for a proof, which
 //! cites its clauses.
 
-ghost use Rattle.std.specs.Prelude.{◌<◌, ℕ, List, ◌++◌, length};
+ghost use Rattle.std.specs.Prelude.{◌≡◌, ◌<◌, ℕ, Bool, List, ◌++◌, length};
+ghost use Rattle.am_clock.specs.Times.{IsTiming};
 ghost use Rattle.am_domain.specs.Domains.{DomainValue, IsLawful, Reports};
 ghost use Rattle.am_graph.specs.Graphs.{graph_of};
-ghost use Rattle.am_graph.specs.Clusters.{ClustersValue, AreClusters, count_of};
+ghost use Rattle.am_graph.specs.Clusters.{ClustersValue, AreClusters, cluster_of, count_of};
 ghost use Rattle.am_meter.specs.declared.stream.Marked.{Marked};
 ghost use Rattle.am_control.specs.Plans.{IsPlanOf};
 ghost use Rattle.am_control.specs.Rows.{Measured};
 ghost use Rattle.am_world.specs.declared.event.Event.{Event};
 ghost use Rattle.am_world.specs.Worlds.{IsValid, IsTimed};
 ghost use Rattle.am_world.specs.Passes.{sends};
+ghost use Rattle.am_world.specs.Drops.{dropped_in};
 ghost use Rattle.am_world.specs.Laws.{AreAttributed, AreConserved};
 ghost use Rattle.am_world.specs.Delays.{TellsDelays};
 ghost use Rattle.am_world.specs.Losses.{AreRecorded, IsCountedFrom, TellsDrops};
+ghost use Rattle.am_world.specs.LinkLosses.{StandsAlone, CoverEnds, RecordEnds, dropped_on, TellsLink};
 
 use am_control::loss_law;
 
@@ -46,3 +49,20 @@ pub fn world_law()
 {
     loss_law();
 }
+
+/// Why what is counted at the two ends of a link tells what was dropped between them: the same for two captures alone.
+pub fn link_law()
+    // Where no other link shares an end with the link, and the captures of its ends record a valid and timed world: of
+    // each block that both cover, what counts at its start counts at its end or was dropped between.
+    ensures counts { (d : DomainValue) (events : List Event) (link : ℕ)
+        (ups downs : List Marked) (flow block : ℕ)
+        → IsTiming d.times → StandsAlone d.links link → RecordEnds d events link ups downs
+        → flow < length d.flows → CoverEnds d link block
+        → TellsLink d events link ups downs flow block }
+
+    // Such a link is a cluster by itself, and what is dropped between its ends is what is dropped in its cluster.
+    ensures cluster { (d : DomainValue) (c : ClustersValue) (link : ℕ)
+        (so : Event → Bool) (events : List Event)
+        → AreClusters (graph_of d) c → StandsAlone d.links link
+        → dropped_in d.links c (cluster_of c link) so events ≡ dropped_on d.links link so events }
+{}

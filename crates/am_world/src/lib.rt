@@ -7,17 +7,25 @@
 //! Nothing here counts marked packets, and no file is read.
 #![tactic(auto)]
 
+mod capture;
+mod check;
+mod draws;
 mod event;
+mod generating;
 mod laws;
 mod loss;
+mod routes;
 mod rule;
 #[cfg(test)]
 mod tests;
 mod trip;
 mod world;
 
+pub use capture::capture_of;
+pub use check::check_world;
 pub use event::Event;
-pub use laws::world_law;
+pub use generating::generate;
+pub use laws::{link_law, world_law};
 pub use loss::true_loss;
 pub use rule::{Breach, Rule};
 pub use world::World;

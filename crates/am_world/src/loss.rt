@@ -1,6 +1,6 @@
 //! The losses of a world.
 
-ghost use Rattle.std.specs.Prelude.{◌≡◌, ◌<◌, ◌+◌, ◌^◌, ℕ, All, IfOk, length, slice_index};
+ghost use Rattle.std.specs.Prelude.{◌≡◌, ◌<◌, ◌+◌, ◌^◌, ℕ, All, IfOk, slice_index};
 ghost use Rattle.am_graph.specs.Clusters.{count_of};
 ghost use Rattle.am_world.specs.Drops.{is_among, is_at};
 ghost use Rattle.am_world.specs.Trips.{NamesLink};

@@ -10,7 +10,7 @@ use std::alloc::{AllocError, Global};
 use std::test::Fail;
 
 // Two nodes and a link from the first to the second. The blocks 0, 1 and 2 of 10 s are reported.
-const TWO: &str =
+pub(crate) const TWO: &str =
     "timing = { block_ns = 10000000000, skew_ns = 1000000, delay_min_ns = 0, delay_max_ns = 500000000 }
 marking = { place = \"hop-by-hop\" }
 flow = [{ name = \"voice\", id = 74565, source = \"2001:db8:1::/48\", destination = \"2001:db8:2::/48\" }]
@@ -19,10 +19,10 @@ node = [{ name = \"a\", capture = \"u.pcap\", from_ns = 0, until_ns = 4000000000
 link = [{ from = \"a\", to = \"b\" }]
 ";
 
-const SECOND: u64 = 1_000_000_000;
+pub(crate) const SECOND: u64 = 1_000_000_000;
 
 // A packet of flow 0 is sent at the first node, by a clock that is right.
-fn sent(packet: u64, time: u64, delay: bool) -> Event {
+pub(crate) fn sent(packet: u64, time: u64, delay: bool) -> Event {
     Event::Send {
         packet,
         flow: 0,
@@ -70,7 +70,7 @@ fn has_link(links: &[Edge], event: &Event) -> bool
 }
 
 // A packet comes over the link, by a clock that is right.
-fn hops(packet: u64, time: u64) -> Event {
+pub(crate) fn hops(packet: u64, time: u64) -> Event {
     Event::Hop {
         packet,
         link: 0,

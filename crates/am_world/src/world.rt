@@ -1,6 +1,6 @@
 //! A world as the list of its events.
 
-ghost use Rattle.std.specs.Prelude.{◌≡◌, vec_len};
+ghost use Rattle.std.specs.Prelude.{◌≡◌};
 
 use crate::event::Event;
 use std::marker::Model;

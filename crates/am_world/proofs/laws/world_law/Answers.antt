@@ -1,4 +1,4 @@
-use Rattle.am_world.proofs.CellLemmas.{cluster-delay, cluster-d_delay}
+use Rattle.am_world.proofs.CellLemmas.{cluster-delay, cluster-d_delay, network-delay, network-d_delay}
 use Rattle.am_world.proofs.AttributionLemmas.{attributed}
 use Rattle.am_world.proofs.JourneyLemmas.{journeys-front}
 use Rattle.am_world.proofs.LawLemmas.{conserved}
@@ -18,5 +18,7 @@ returns c = record {
   delays = λ d m events captures flow block lawful of counted recorded within reported. record {
     all = cluster-delay d m events captures flow block lawful of counted recorded within reported;
     delayed = cluster-d_delay d m events captures flow block lawful of counted recorded within reported;
+    network = network-delay d m events captures flow block lawful of counted recorded within reported;
+    network_delayed = network-d_delay d m events captures flow block lawful of counted recorded within reported;
   };
 }
