@@ -1,0 +1,4 @@
+pub mod Simulating
+pub mod Comparing
+pub mod Measuring
+pub mod Texts
