@@ -18,3 +18,4 @@ pub mod UndoLemmas
 pub mod GatherLemmas
 pub mod AgreeLemmas
 pub mod HeadlineLemmas
+pub mod LinkHeadlineLemmas

@@ -10,6 +10,7 @@ use Rattle.am_pcap.specs.Frames.{IsFramed}
 use Rattle.am_pcap.specs.declared.head.Head.{Head}
 use Rattle.am_pcap.specs.declared.frame.Frame.{Frame}
 use Rattle.am_pcap.specs.declared.frame.Frame.TheVariants.{Ip6}
+use Rattle.am_cli.specs.Printing.{Grows}
 use Rattle.am_cli.specs.Showing.{AddsPacket, mark_text, brief_text}
 use Rattle.am_pcap.specs.CaptureFiles.{is_whole}
 use Rattle.am_cli.specs.Lines.{IsLine, AreLines, IsFrameText, IsPacketText, record_text}
@@ -117,47 +118,61 @@ adds_brief start packet whole mark next old new is walk added = record {
   added = added;
 }
 
--- the line of a packet, where it was added to nothing
+-- a line that was made apart is added to another text
+pub adds_apart :
+    (start packet : List ℕ) (whole : Bool) (none line old new : List ℕ)
+    → none ≡ [] → AddsPacket start packet whole none line → new ≡ old ++ line → AddsPacket start packet whole old new
+adds_apart start packet whole none line old new is made grew = record {
+  held = made.held;
+  text = made.text;
+  added = grew ∙ ap (λ x. old ++ x) (made.added ∙ ap (λ x. x ++ (start ++ made.held ++ codes "\n")) is);
+}
+
+-- a text grew by the line of a packet
 pub line_of_packet :
     (k : Head) (number : ℕ) (p : Packet) (at : ℕ) (whole : Bool) (packet old new : List ℕ)
     → whole ≡ is_whole p
     → packet ≡ drop at p.bytes
     → IsFramed k.link p.bytes whole (Ip6 at)
-    → old ≡ []
     → AddsPacket (record_text k.form.nano number p) packet whole old new
-    → IsLine k number p new
-line_of_packet k number p at whole packet old new same rest says none added = record {
-  frame = Ip6 at;
-  held = added.held;
-  framed = subst (λ w. IsFramed k.link p.bytes w (Ip6 at)) same says;
-  text = subst (λ w. IsPacketText (drop at p.bytes) w added.held) same (subst (λ x. IsPacketText x whole added.held) rest added.text);
-  shown = added.added ∙ ap (λ x. x ++ (record_text k.form.nano number p ++ added.held ++ codes "\n")) none;
-}
+    → Grows old new (λ x. IsLine k number p x)
+line_of_packet k number p at whole packet old new same rest says added = (
+  record_text k.form.nano number p ++ added.held ++ codes "\n",
+  added.added,
+  record {
+    frame = Ip6 at;
+    held = added.held;
+    framed = subst (λ w. IsFramed k.link p.bytes w (Ip6 at)) same says;
+    text = subst (λ w. IsPacketText (drop at p.bytes) w added.held) same (subst (λ x. IsPacketText x whole added.held) rest added.text);
+    shown = refl;
+  },
+)
 
--- the line of another record
+-- a text grew by the line of another record
 pub line_of_word :
     (k : Head) (number : ℕ) (p : Packet) (frame : Frame) (whole : Bool) (word old new : List ℕ)
     → whole ≡ is_whole p
     → IsFramed k.link p.bytes whole frame
     → IsFrameText p frame word
-    → old ≡ []
     → new ≡ old ++ (record_text k.form.nano number p ++ word ++ codes "\n")
-    → IsLine k number p new
-line_of_word k number p frame whole word old new same says text none added = record {
-  frame = frame;
-  held = word;
-  framed = subst (λ w. IsFramed k.link p.bytes w frame) same says;
-  text = text;
-  shown = added ∙ ap (λ x. x ++ (record_text k.form.nano number p ++ word ++ codes "\n")) none;
-}
+    → Grows old new (λ x. IsLine k number p x)
+line_of_word k number p frame whole word old new same says text added = (
+  record_text k.form.nano number p ++ word ++ codes "\n",
+  added,
+  record {
+    frame = frame;
+    held = word;
+    framed = subst (λ w. IsFramed k.link p.bytes w frame) same says;
+    text = text;
+    shown = refl;
+  },
+)
 
--- the lines of the records so far, and the line that was made of the next
+-- the lines of the records so far, and the line of the next
 pub lines_more :
-    (k : Head) (ps : List Packet) (text : List ℕ) (number : ℕ) (p : Packet) (line bytes : List ℕ)
+    (k : Head) (ps : List Packet) (text : List ℕ) (number : ℕ) (p : Packet) (line : List ℕ)
     → AreLines k 1 ps text
     → number ≡ length ps + 1
-    → bytes ≡ line
     → IsLine k number p line
-    → AreLines k 1 (ps ++ p ∷ []) (text ++ bytes)
-lines_more k ps text number p line bytes lines counted made l =
-    AreLines-more k 1 ps text number p bytes lines (omega arith) (subst (λ x. IsLine k number p x) (sym made) l)
+    → AreLines k 1 (ps ++ p ∷ []) (text ++ line)
+lines_more k ps text number p line lines counted l = AreLines-more k 1 ps text number p line lines (omega arith) l

@@ -1,11 +1,12 @@
 -- A capture that is printed record by record: what was printed so far, and what each exit of the loop leaves.
-use Rattle.std.proofs.Common.{arith, refl, sym, ap, subst, ◌∙◌, ◌≡◌, ℕ, ◌≤◌, Bool, min, List, [], ◌∷◌, ◌++◌, length, drop, Option, Some, Ok, inl, inr}
+use Rattle.std.proofs.Common.{arith, refl, sym, ap, subst, ◌∙◌, ◌≡◌, ℕ, ◌≤◌, ◌+◌, Bool, min, List, [], ◌∷◌, ◌++◌, length, take, drop, Option, None, Some, Ok, inl, inr, append_assoc}
 use Rattle.std.specs.Prelude.{Result, IfOk, IfSome}
-use Rattle.std.proofs.lemmas.List.{length-take}
+use Rattle.std.proofs.Math.Seq.{take-append-add}
+use Rattle.std.proofs.lemmas.List.{append-nil, length-append, length-take}
 use Rattle.std.specs.Io.KnownBytes.{append_known}
 use Rattle.am_base.specs.Counts.{Rose}
 use Rattle.am_base.specs.Shelves.{Told}
-use Rattle.am_base.specs.Sinks.{IsWrittenOf, HandsIn, BreaksOff, WritesAll, WritesFront}
+use Rattle.am_base.specs.Sinks.{AppendsFront, IsWrittenOf, WritesAll, WritesFront}
 use Rattle.am_pcap.specs.Packets.{Packet, HoldsPackets, word, behind_first, most_captured}
 use Rattle.am_pcap.specs.Captures.{HasRecords, IsSplit}
 use Rattle.am_pcap.specs.declared.refusal.CapError.{CapError}
@@ -24,7 +25,7 @@ use Rattle.am_cli.specs.Shown.{IsAnswered, OnRefused, reason_shown, capture_answ
 use Rattle.am_cli.specs.declared.answer.Unprinted.{Unprinted}
 use Rattle.am_cli.specs.declared.answer.Unprinted.TheVariants as unprinted
 use Rattle.am_cli.proofs.ChainLemmas.{rose-later, whole-front, nothing}
-use Rattle.am_cli.specs.Printing.{Known, Flushes}
+use Rattle.am_cli.specs.Printing.{Known, MovesOn, Flushes}
 
 -- the capture was read on, and what is printed of the packets that were given was written
 pub record Streaming (before now : Inputs) (old out : Output) (name : List ℕ) (stream : Stream) (c : Reading) (h : Head) : Type 0 where
@@ -181,22 +182,58 @@ stream-stopped before now after old out name stream c h e answer s stops failed 
     answered before after old out name stream (capture_answer name e) answer (stopped before now after old out name stream c h e s stops failed)
     (stream-memory before now after old out name stream c h s) is
 
--- one more record was given, and its line handed in
+-- a piece is held behind the other bytes
+held-more :
+    (start written : Option (List ℕ)) (held piece grown text : List ℕ)
+    → IsWrittenOf start written held text → grown ≡ held ++ piece → IsWrittenOf start written grown (text ++ piece)
+held-more start written held piece grown text w e = record {
+  moved = w.moved;
+  appended = w.appended;
+  handed = ap (λ x. x ++ piece) w.handed ∙ append_assoc w.moved held piece ∙ ap (λ x. w.moved ++ x) (sym e);
+}
+
+append_known-twice : (w : Option (List ℕ)) (a b : List ℕ) → append_known (append_known w a) b ≡ append_known w (a ++ b)
+append_known-twice None a b = refl
+append_known-twice (Some xs) a b = ap Some (append_assoc xs a b)
+
+-- all that was held was appended
+pub wrote-all : (old new : Option (List ℕ)) (held : List ℕ) → new ≡ append_known old held → WritesAll old held new
+wrote-all old new held e start text w =
+    e ∙ ap (λ x. append_known x held) w.appended ∙ append_known-twice start w.moved held ∙ ap (λ x. append_known start x) (sym w.handed)
+
+-- a front of it was
+pub wrote-front : (old new : Option (List ℕ)) (held : List ℕ) → AppendsFront old new held → WritesFront old held new
+wrote-front old new held f start text w = (
+  length w.moved + f.0,
+  omega (arith, f.1, ap length w.handed, length-append w.moved held),
+  f.2 ∙ ap (λ x. append_known x (take f.0 held)) w.appended ∙ append_known-twice start w.moved (take f.0 held)
+      ∙ ap (λ x. append_known start x) (sym (ap (λ x. take (length w.moved + f.0) x) w.handed ∙ take-append-add w.moved held f.0)),
+)
+
+-- all that was held was appended, and nothing is held
+pub moved-all : (old new : Option (List ℕ)) (held kept : List ℕ) → new ≡ append_known old held → kept ≡ [] → MovesOn old held new kept
+moved-all old new held kept e none start text w = record {
+  moved = text;
+  appended = wrote-all old new held e start text w;
+  handed = sym (append-nil text) ∙ ap (λ x. text ++ x) (sym none);
+}
+
+-- one more record was given; its line is held behind the others, and what is held was written, or is held still
 pub stream-more :
-    (before now after : Inputs) (old out new : Output) (held kept name : List ℕ) (stream : Stream) (c n : Reading) (h : Head) (p : Packet) (line : List ℕ)
+    (before now after : Inputs) (old out new : Output) (held grown kept name : List ℕ) (stream : Stream) (c n : Reading) (h : Head) (p : Packet) (line : List ℕ)
     → (s : Gathering before now old out held name stream c h)
     → ReadsOn before.told after.told name n h (s.packets ++ p ∷ []) → stream.text_of h (s.packets ++ p ∷ []) (s.text ++ line)
-    → HandsIn out.written held line new.written kept
+    → grown ≡ held ++ line → MovesOn out.written grown new.written kept
     → now.faults ≤ after.faults → now.missed ≤ after.missed → out.faults ≤ new.faults
     → (known : Known) → known h (s.packets ++ p ∷ [])
     → (t : Gathering before after old new kept name stream n h) × known h t.packets
-stream-more before now after old out new held kept name stream c n h p line s on printed handed faults missed out_faults known k = (
+stream-more before now after old out new held grown kept name stream c n h p line s on printed grew moves faults missed out_faults known k = (
   record {
     packets = s.packets ++ p ∷ [];
     text = s.text ++ line;
     on = on;
     printed = printed;
-    gathered = handed old.written s.text s.gathered;
+    gathered = moves old.written (s.text ++ line) (held-more old.written out.written held line grown s.text s.gathered grew);
     faults = omega (arith, s.faults, faults);
     missed = omega (arith, s.missed, missed);
     out_faults = omega (arith, s.out_faults, out_faults);
@@ -204,63 +241,58 @@ stream-more before now after old out new held kept name stream c n h p line s on
   k,
 )
 
--- the output failed where the line of one more record was handed in
+-- the output failed where what is held, with the line of one more record, was to be written
 pub stream-unwritten :
-    (before now after : Inputs) (old out new : Output) (held name : List ℕ) (stream : Stream) (c n : Reading) (h : Head) (p : Packet) (line : List ℕ)
+    (before now after : Inputs) (old out new : Output) (held grown name : List ℕ) (stream : Stream) (c n : Reading) (h : Head) (p : Packet) (line : List ℕ)
     → (s : Gathering before now old out held name stream c h)
     → ReadsOn before.told after.told name n h (s.packets ++ p ∷ []) → stream.text_of h (s.packets ++ p ∷ []) (s.text ++ line)
-    → BreaksOff out.written held line new.written → Rose out.faults new.faults
+    → grown ≡ held ++ line → WritesFront out.written grown new.written → Rose out.faults new.faults
     → StreamsSo before after old new name stream WriteFault
-stream-unwritten before now after old out new held name stream c n h p line s on printed breaks rose = (
+stream-unwritten before now after old out new held grown name stream c n h p line s on printed grew front rose = (
   rose-later old.faults out.faults new.faults s.out_faults rose,
   (
     s.text ++ line,
     inr (inl (record { head = h; packets = s.packets ++ p ∷ []; begins = on.begins; printed = printed })),
-    breaks old.written s.text s.gathered,
+    front old.written (s.text ++ line) (held-more old.written out.written held line grown s.text s.gathered grew),
   ),
 )
 
--- no memory for the buffer: nothing was printed
+-- no memory for what is held: nothing was printed
 pub stream-unbegun :
     (before after : Inputs) (out : Output) (name : List ℕ) (stream : Stream) → StreamsSo before after out out name stream NoMemory
 stream-unbegun before after out name stream = ([], inl refl, whole-front out.written out.written [] (nothing out.written))
 
--- the file header was read, and what stands before all records was handed in
+-- the file header was read, and what stands before all records is held
 pub stream-begun :
-    (before now : Inputs) (old new : Output) (fresh held piece name : List ℕ) (stream : Stream) (c : Reading) (h : Head)
+    (before now : Inputs) (old : Output) (fresh held piece name : List ℕ) (stream : Stream) (c : Reading) (h : Head)
     → ReadsOn before.told now.told name c h [] → stream.text_of h [] piece
-    → ((start : Option (List ℕ)) → IsWrittenOf start start fresh []) → HandsIn old.written fresh piece new.written held
-    → before.faults ≤ now.faults → before.missed ≤ now.missed → old.faults ≤ new.faults
+    → fresh ≡ [] → held ≡ fresh ++ piece
+    → before.faults ≤ now.faults → before.missed ≤ now.missed
     → (known : Known) → known h []
-    → (s : Gathering before now old new held name stream c h) × known h s.packets
-stream-begun before now old new fresh held piece name stream c h on printed begins handed faults missed out_faults known k = (
+    → (s : Gathering before now old old held name stream c h) × known h s.packets
+stream-begun before now old fresh held piece name stream c h on printed none grew faults missed known k = (
   record {
     packets = [];
     text = piece;
     on = on;
     printed = printed;
-    gathered = handed old.written [] (begins old.written);
+    gathered = record {
+      moved = [];
+      appended = nothing old.written;
+      handed = sym (grew ∙ ap (λ x. x ++ piece) none);
+    };
     faults = faults;
     missed = missed;
-    out_faults = out_faults;
+    out_faults = omega arith;
   },
   k,
 )
 
--- the output failed where it was handed in
-pub stream-unbegun-written :
-    (before now after : Inputs) (old new : Output) (fresh piece name : List ℕ) (stream : Stream) (c : Reading) (h : Head)
-    → ReadsOn before.told now.told name c h [] → stream.text_of h [] piece
-    → ((start : Option (List ℕ)) → IsWrittenOf start start fresh []) → BreaksOff old.written fresh piece new.written → Rose old.faults new.faults
-    → StreamsSo before after old new name stream WriteFault
-stream-unbegun-written before now after old new fresh piece name stream c h on printed begins breaks rose = (
-  rose,
-  (
-    piece,
-    inr (inl (record { head = h; packets = []; begins = on.begins; printed = printed })),
-    breaks old.written [] (begins old.written),
-  ),
-)
+-- nothing stands behind the text of all records
+pub all-behind :
+    (stream : Stream) (h : Head) (ps : List Packet) (text : List ℕ)
+    → stream.all_of h ps text → stream.all_of h ps (text ++ [])
+all-behind stream h ps text is = subst (λ t. stream.all_of h ps t) (sym (append-nil text)) is
 
 -- the next record is not printed: what was printed is what is printed of the records before
 pub stream-unprinted :
@@ -313,45 +345,28 @@ pub on-refused : (e : Unprinted) (P Q : Reason → Type 0) → OnRefused e P →
 on-refused (unprinted.Refused reason) P Q p f = f (reason_shown reason) p
 on-refused unprinted.NoMemory P Q p f = tt
 
--- there is no next record, and what stands behind all records was handed in
+-- there is no next record, and what stands behind all records is held, and was then written
 pub stream-ended :
-    (before now after : Inputs) (old out new last : Output) (held kept piece name : List ℕ) (stream : Stream) (c : Reading) (h : Head) (answer : Answer)
+    (before now after : Inputs) (old out last : Output) (held grown piece name : List ℕ) (stream : Stream) (c : Reading) (h : Head) (answer : Answer)
     → (s : Gathering before now old out held name stream c h)
     → EndsReading c now.told after.told → stream.all_of h s.packets (s.text ++ piece)
-    → HandsIn out.written held piece new.written kept → out.faults ≤ new.faults → Flushes new kept last (Ended Done) answer
+    → grown ≡ held ++ piece → Flushes out grown last (Ended Done) answer
     → now.faults ≤ after.faults → now.missed ≤ after.missed
     → StreamsSo before after old last name stream answer
-stream-ended before now after old out new last held kept piece name stream c h answer s ends all handed more flushes faults missed =
+stream-ended before now after old out last held grown piece name stream c h answer s ends all grew flushes faults missed =
     let e = ends before.told name h s.packets s.on in
     let whole : IsTextOfAll before.told name stream (s.text ++ piece) = record { head = h; packets = s.packets; whole = e.0; printed = all } in
-    let gathered = handed old.written s.text s.gathered in
+    let gathered = held-more old.written out.written held piece grown s.text s.gathered grew in
     elim flushes [
       | inl f ↦ subst (λ a. StreamsSo before after old last name stream a) (sym f.0) (
         record { kept = e.2; faults = omega (arith, s.faults, faults); missed = omega (arith, s.missed, missed); at_end = e.1 },
         (s.text ++ piece, whole, f.1 old.written (s.text ++ piece) gathered),
       )
       | inr f ↦ subst (λ a. StreamsSo before after old last name stream a) (sym f.0) (
-        rose-later old.faults new.faults last.faults (omega (arith, s.out_faults, more)) f.2,
+        rose-later old.faults out.faults last.faults s.out_faults f.2,
         (s.text ++ piece, inr (inr whole), f.1 old.written (s.text ++ piece) gathered),
       )
     ]
-
--- the output failed where it was handed in
-pub stream-unended :
-    (before now after : Inputs) (old out new : Output) (held piece name : List ℕ) (stream : Stream) (c : Reading) (h : Head)
-    → (s : Gathering before now old out held name stream c h)
-    → EndsReading c now.told after.told → stream.all_of h s.packets (s.text ++ piece)
-    → BreaksOff out.written held piece new.written → Rose out.faults new.faults
-    → StreamsSo before after old new name stream WriteFault
-stream-unended before now after old out new held piece name stream c h s ends all breaks rose =
-    let e = ends before.told name h s.packets s.on in (
-      rose-later old.faults out.faults new.faults s.out_faults rose,
-      (
-        s.text ++ piece,
-        inr (inr (record { head = h; packets = s.packets; whole = e.0; printed = all })),
-        breaks old.written s.text s.gathered,
-      ),
-    )
 
 -- the file header that was read is the one that the capture tells
 pub reads-of :

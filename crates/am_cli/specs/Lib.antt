@@ -24,3 +24,4 @@ pub mod Runs
 pub mod Shown
 pub mod Undoing
 pub mod Headline
+pub mod LinkHeadline

@@ -1,7 +1,7 @@
 -- What the parts of a command add that prints a capture record by record.
-use Rattle.std.specs.Prelude.{◌≡◌, ◌≤◌, ◌⊎◌, ◌+◌, ℕ, List, [], ◌∷◌, ◌++◌, length}
+use Rattle.std.specs.Prelude.{◌≡◌, ◌≤◌, ◌⊎◌, ◌+◌, ℕ, List, [], ◌∷◌, ◌++◌, length, Option}
 use Rattle.am_base.specs.Counts.{Rose}
-use Rattle.am_base.specs.Sinks.{WritesAll, WritesFront}
+use Rattle.am_base.specs.Sinks.{IsWrittenOf, WritesAll, WritesFront}
 use Rattle.am_pcap.specs.Packets.{Packet}
 use Rattle.am_pcap.specs.declared.head.Head.{Head}
 use Rattle.am_cli.specs.Answers.{Answer, Reason}
@@ -11,6 +11,10 @@ use Rattle.am_cli.specs.Chains.{Output, Stream}
 -- what is known of the records so far: the file header, and their packets
 abbrev pub Known : Type 1
 Known = Head → List Packet → Type 0
+
+-- bytes grew by a piece of which this holds
+abbrev pub Grows : List ℕ → List ℕ → (List ℕ → Type 0) → Type 0
+Grows old new is = (piece : List ℕ) × (new ≡ old ++ piece) × is piece
 
 -- behind whatever records are known, and their text: one more record with this number and packet is known, and its text is
 -- that of this piece behind the other
@@ -28,7 +32,12 @@ abbrev pub AddsRest : Stream → Known → Head → List ℕ → Type 0
 AddsRest stream known h piece =
     (ps : List Packet) (text : List ℕ) → known h ps → stream.text_of h ps text → stream.all_of h ps (text ++ piece)
 
--- all that a buffer held was written, and the answer is the wanted one; or the output failed, and a front of it was
+-- whatever was handed in before, it was written as far as it is no longer held
+abbrev pub MovesOn : Option (List ℕ) → List ℕ → Option (List ℕ) → List ℕ → Type 0
+MovesOn old held new kept =
+    (start : Option (List ℕ)) (text : List ℕ) → IsWrittenOf start old held text → IsWrittenOf start new kept text
+
+-- all that was held was written, and the answer is the wanted one; or the output failed, and a front of it was
 abbrev pub Flushes : Output → List ℕ → Output → Answer → Answer → Type 0
 Flushes old held new wanted answer =
     ((answer ≡ wanted) × WritesAll old.written held new.written × (old.faults ≤ new.faults))

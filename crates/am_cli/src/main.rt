@@ -9,7 +9,6 @@ mod commands;
 mod counting;
 mod inputs;
 mod laws;
-mod piece;
 mod printing;
 mod rewriting;
 mod run;

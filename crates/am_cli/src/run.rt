@@ -6,6 +6,7 @@ ghost use Rattle.am_cli.specs.Answers.{line, status};
 ghost use Rattle.am_cli.specs.Chains.{inputs, output};
 ghost use Rattle.am_cli.specs.Forms.{IsNoCommand};
 ghost use Rattle.am_cli.specs.Headline.{TellsEachWorld};
+ghost use Rattle.am_cli.specs.LinkHeadline.{TellsEachLink};
 ghost use Rattle.am_cli.specs.Runs.{Answers, Obeys, IsDecided, Completes, TellsLine, IsToldAs};
 ghost use Rattle.am_cli.specs.Shown.{stop_shown, answer_of};
 
@@ -13,7 +14,7 @@ use crate::answer::Stop;
 use crate::commands::{command_of, perform};
 use crate::laws::laws;
 use am_base::{Shelf, Sink, put};
-use am_world::world_law;
+use am_world::{link_law, world_law};
 use std::alloc::Global;
 
 /// The line where there was not enough memory.
@@ -63,9 +64,17 @@ pub fn run<S: Shelf, O: Sink, E: Sink>(
     ensures headline { OnTold (S.told shelf.old)
         (λ t. TellsEachWorld (map string_bytes words.now) (Some t)
         (O.written out.old) (O.written out.new) result) }
+
+    // And of `link`: whatever world the two captures record at the ends of a link that shares neither with another link,
+    // the loss that was printed of each block that both cover is the number of the flow's packets of the block that were
+    // dropped between the two points.
+    ensures link_headline { OnTold (S.told shelf.old)
+        (λ t. TellsEachLink (map string_bytes words.now) (Some t)
+        (O.written out.old) (O.written out.new) result) }
 {
     laws();
     world_law();
+    link_law();
     match obey(alloc, words, shelf, out) {
         Ok(()) => 0,
         Err(stop) => tell(alloc, &stop, err),

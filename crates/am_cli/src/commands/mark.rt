@@ -1,23 +1,24 @@
 //! The command `mark`: the capture with a mark in each packet of the domain's flows (RFC 9343, section 4).
-ghost use Rattle.std.specs.Prelude.{◌≡◌, ◌≤◌, ◌<◌, ◌^◌, length, drop, OnOk, IfOk, IfErr};
+ghost use Rattle.std.specs.Prelude.{◌≡◌, ◌≤◌, ◌<◌, ◌^◌, length, drop, OnOk, OnErr, IfOk, IfErr};
 ghost use Rattle.std.specs.Bool.{MatchBool};
+ghost use Rattle.am_clock.specs.Times.{IsMarkedIn};
 ghost use Rattle.am_pcap.specs.Packets.{most_captured};
 ghost use Rattle.am_pcap.specs.Shown.{packet_shown};
 ghost use Rattle.am_cli.specs.Chains.{inputs, output, Performs};
 ghost use Rattle.am_insert.specs.Edits.{edited, IsEditOf};
 ghost use Rattle.am_cli.specs.Marking.{AreNewest, PlansMark, MarksRecord};
+ghost use Rattle.am_cli.specs.Printing.{Grows};
 ghost use Rattle.am_cli.specs.Rewriting.{IsOfFlow};
 ghost use Rattle.am_cli.specs.commands.Mark.{IsFullRecord, RefusesMarkAt, marked_records, mark_chain};
 ghost use Rattle.am_cli.specs.Shown.{domain_file_shown, reason_shown, answer_of, OnRefused};
 
 use crate::answer::{Reason, Stop, Unprinted};
 use crate::inputs::take_domain;
-use crate::piece::Piece;
 use crate::printing::{Printing, print_capture};
 use crate::rewriting::{Matched, change_record, flow_of_record, keep_record};
 use crate::words::DomainFileWords;
 use am_base::{Shelf, Sink};
-use am_clock::colour_of;
+use am_clock::{Timing, colour_of};
 use am_domain::Domain;
 use am_insert::{Edit, plan_insert};
 use am_opts::Mark;
@@ -41,7 +42,6 @@ struct MarkedRecords<'a> {
 struct Marker {
     // of each flow: one behind the greatest block of its records so far, 0 where there was none
     newest: Vec<u64>,
-    piece: Piece,
 }
 
 impl Printing for MarkedRecords<'_> {
@@ -51,31 +51,35 @@ impl Printing for MarkedRecords<'_> {
 
     ghost knows = { λ m s h ps. AreNewest m.domain.now h ps s.newest.items };
 
-    ghost piece = { λ m s. s.piece.bytes.items };
-
-    fn begin(&self, alloc: Global, head: &Head) -> Result<Marker, AllocError> {
+    fn begin(&self, alloc: Global, head: &Head, held: &mut Vec<u8>) -> Result<Marker, AllocError> {
         let newest = vec![in alloc; 0u64; self.domain.flows().len()]?;
-        let piece = Piece::of(alloc, &head.raw)?;
-        Ok(Marker { newest, piece })
+        held.extend_from_slice(&head.raw)?;
+        Ok(Marker { newest })
     }
 
-    fn take(&self, state: &mut Marker, head: &Head, packet: &Record<'_>) -> Result<(), Unprinted> {
+    fn take(
+        &self,
+        state: &mut Marker,
+        head: &Head,
+        packet: &Record<'_>,
+        held: &mut Vec<u8>,
+    ) -> Result<(), Unprinted> {
         match flow_of_record(self.domain, head.link, packet) {
-            Some(found) => mark_record(self.domain, state, head, packet, found),
-            None => match keep_record(&mut state.piece, head.form, packet) {
+            Some(found) => mark_record(self.domain, state, head, packet, found, held),
+            None => match keep_record(held, head.form, packet) {
                 Ok(()) => Ok(()),
                 Err(_) => Err(Unprinted::NoMemory),
             },
         }
     }
 
-    fn finish(&self, state: &mut Marker, _head: &Head) -> Result<(), AllocError> {
-        state.piece.clear();
+    fn finish(
+        &self,
+        _state: &mut Marker,
+        _head: &Head,
+        _held: &mut Vec<u8>,
+    ) -> Result<(), AllocError> {
         Ok(())
-    }
-
-    fn text<'b>(&self, state: &'b Marker) -> &'b [u8] {
-        &state.piece.bytes
     }
 }
 
@@ -86,24 +90,26 @@ struct Plan {
     block: u64,
 }
 
-// Makes the piece of a record of this flow, with its mark.
+// Adds a record of this flow, with its mark; nothing where it is refused or memory runs out.
 fn mark_record(
     domain: &Domain,
     state: &mut Marker,
     head: &Head,
     packet: &Record<'_>,
     found: Matched,
+    held: &mut Vec<u8>,
 ) -> Result<(), Unprinted>
     requires short { length packet.now.bytes.now ≤ most_captured }
     requires flows { length state.old.newest.items ≡ length domain.now.flows }
     requires of_flow { IsOfFlow domain.now head.now.link (packet_shown packet.now)
         found.at found.flow }
     requires within { found.at ≤ length packet.now.bytes.now }
-    ensures marked { OnOk result (MarksRecord domain.now head.now (packet_shown packet.now)
-        found.at found.flow state.old.newest.items state.new.newest.items
-        state.new.piece.bytes.items) }
+    ensures marked { OnOk result (Grows held.old.items held.new.items (λ piece.
+        MarksRecord domain.now head.now (packet_shown packet.now) found.at found.flow
+        state.old.newest.items state.new.newest.items piece)) }
     ensures refused { IfErr result (λ e. OnRefused e (RefusesMarkAt domain.now
         packet.now.number (packet_shown packet.now) found.at)) }
+    ensures kept { OnErr result (held.new.items ≡ held.old.items) }
 {
     let flow = found.flow as usize;
     let newest = state.newest[flow];
@@ -112,14 +118,7 @@ fn mark_record(
         Err(reason) => return Err(Unprinted::Refused { reason }),
     };
     let lengths = (packet.bytes.len() as u32 + 8, packet.original + 8);
-    match change_record(
-        &mut state.piece,
-        head.form,
-        packet,
-        found.at,
-        &edit,
-        lengths,
-    ) {
+    match change_record(held, head.form, packet, found.at, &edit, lengths) {
         Ok(()) => {}
         Err(_) => return Err(Unprinted::NoMemory),
     }
@@ -145,7 +144,8 @@ fn plan_mark(
     ensures refused { IfErr result (λ e. RefusesMarkAt domain.now
         packet.now.number (packet_shown packet.now) found.at (reason_shown e)) }
 {
-    let block = domain.timing().block_of(packet.reading(head.form));
+    let reading = packet.reading(head.form);
+    let block = block_near(domain.timing(), newest.saturating_sub(1), reading);
     let flow = &domain.flows()[found.flow as usize];
     let Some(mark) = Mark::new(flow.id(), colour_of(block), newest <= block) else {
         unreachable!()
@@ -164,6 +164,21 @@ fn plan_mark(
         return Err(Reason::RecordFull { number });
     }
     Ok(Plan { edit, block })
+}
+
+// The block of a reading, found without a division where it is the likely one.
+#[inline(always)]
+fn block_near(timing: &Timing, likely: u64, reading: u64) -> u64
+    ensures { IsMarkedIn timing.now reading result }
+{
+    let block = timing.block();
+    let Some(begin) = likely.checked_mul(block) else {
+        return timing.block_of(reading);
+    };
+    if reading < begin || reading - begin >= block {
+        return timing.block_of(reading);
+    }
+    likely
 }
 
 // Whether the record has no room for eight bytes more.

@@ -1,5 +1,5 @@
 //! The command `show`: what each record of a capture says, a line a record.
-ghost use Rattle.std.specs.Prelude.{◌≡◌, ◌+◌, ◌≤◌, ◌++◌, ◌∷◌, [], ℕ, ⊤, List, length, map, string_bytes, OnOk, IfSome, IfNone, flat_map, codes, decimal};
+ghost use Rattle.std.specs.Prelude.{◌≡◌, ◌+◌, ◌≤◌, ◌++◌, ◌∷◌, [], ℕ, ⊤, List, length, map, string_bytes, OnOk, OnErr, IfSome, IfNone, flat_map, codes, decimal};
 ghost use Rattle.am_opts.specs.Marking.{bit};
 ghost use Rattle.am_ip6.specs.Chains.{Lent, HasHeaders};
 ghost use Rattle.am_ip6.specs.Shown.{ending_shown};
@@ -7,6 +7,7 @@ ghost use Rattle.am_ip6.specs.Seen.{seen_shown};
 ghost use Rattle.am_pcap.specs.Shown.{packet_shown};
 ghost use Rattle.am_cli.specs.Chains.{inputs, output, Performs};
 ghost use Rattle.am_cli.specs.Lines.{IsLine, record_text, header_text, ending_text, seen_text};
+ghost use Rattle.am_cli.specs.Printing.{Grows};
 ghost use Rattle.am_cli.specs.Showing.{AddsPacket, mark_text, brief_text};
 ghost use Rattle.am_cli.specs.commands.Show.{Show, SaysShowWords, record_lines, show_chain};
 ghost use Rattle.am_cli.specs.Shown.{show_shown, answer_of};
@@ -60,26 +61,35 @@ impl Printing for RecordLines {
 
     ghost knows = { λ p line h ps. ⊤ };
 
-    ghost piece = { λ p line. line.items };
-
-    fn begin(&self, alloc: Global, _head: &Head) -> Result<Vec<u8>, AllocError> {
+    fn begin(
+        &self,
+        alloc: Global,
+        _head: &Head,
+        _held: &mut Vec<u8>,
+    ) -> Result<Vec<u8>, AllocError> {
         Ok(Vec::new(alloc))
     }
 
-    fn take(&self, line: &mut Vec<u8>, head: &Head, packet: &Record<'_>) -> Result<(), Unprinted> {
-        match show_line(line, packet, head) {
+    fn take(
+        &self,
+        line: &mut Vec<u8>,
+        head: &Head,
+        packet: &Record<'_>,
+        held: &mut Vec<u8>,
+    ) -> Result<(), Unprinted> {
+        match show_line(held, packet, head, line) {
             Ok(()) => Ok(()),
             Err(_) => Err(Unprinted::NoMemory),
         }
     }
 
-    fn finish(&self, line: &mut Vec<u8>, _head: &Head) -> Result<(), AllocError> {
-        line.clear();
+    fn finish(
+        &self,
+        _line: &mut Vec<u8>,
+        _head: &Head,
+        _held: &mut Vec<u8>,
+    ) -> Result<(), AllocError> {
         Ok(())
-    }
-
-    fn text<'a>(&self, line: &'a Vec<u8>) -> &'a [u8] {
-        line.as_slice()
     }
 }
 
@@ -99,77 +109,108 @@ pub fn show<S: Shelf, O: Sink>(
     print_capture(alloc, &RecordLines, words.file, shelf, out)
 }
 
-// The line of a record, in the place of what the text was.
-fn show_line(line: &mut Vec<u8>, packet: &Record<'_>, head: &Head) -> Result<(), AllocError>
-    ensures { OnOk result
-        (IsLine head.now packet.now.number (packet_shown packet.now) line.new.items) }
+// Adds the line of a record, or nothing where memory runs out. A line that takes a walk is made in the other text first.
+fn show_line(
+    held: &mut Vec<u8>,
+    packet: &Record<'_>,
+    head: &Head,
+    line: &mut Vec<u8>,
+) -> Result<(), AllocError>
+    ensures added { OnOk result (Grows held.old.items held.new.items (λ line.
+        IsLine head.now packet.now.number (packet_shown packet.now) line)) }
+    ensures kept { OnErr result (held.new.items ≡ held.old.items) }
 {
-    line.clear();
     let whole = packet.whole();
     match packet_of(head.link, packet.bytes, whole) {
-        Frame::Ip6 { at } => push_packet(line, packet, head.form, &packet.bytes[at..], whole),
-        Frame::Other => push_word(line, packet, head.form, b"other"),
-        Frame::Cut => push_word(line, packet, head.form, b"cut"),
+        Frame::Ip6 { at } => {
+            push_packet(held, packet, head.form, &packet.bytes[at..], whole, line)
+        }
+        Frame::Other => push_word(held, packet, head.form, b"other"),
+        Frame::Cut => push_word(held, packet, head.form, b"cut"),
     }
 }
 
-// Adds the line of a record that holds no IPv6 packet.
+// Adds the line of a record that holds no IPv6 packet, or nothing.
 fn push_word(
-    line: &mut Vec<u8>,
+    held: &mut Vec<u8>,
     packet: &Record<'_>,
     form: Form,
     word: &[u8],
 ) -> Result<(), AllocError>
     requires { length word.now ≤ 5 }
-    ensures { OnOk result (line.new.items ≡ line.old.items
+    ensures added { OnOk result (held.new.items ≡ held.old.items
         ++ (record_text form.nano packet.now.number (packet_shown packet.now)
         ++ word.now ++ codes "\n")) }
+    ensures kept { OnErr result (held.new.items ≡ held.old.items) }
 {
     let mut tail = Tail::new();
     tail.put(b'\n');
     tail.put_all(word);
     put_record(&mut tail, packet, form);
-    line.extend_from_slice(tail.text())
+    held.extend_from_slice(tail.text())
 }
 
-// Adds the line of a record that holds this packet.
+// Adds the line of a record that holds this packet, or nothing.
 fn push_packet(
-    line: &mut Vec<u8>,
+    held: &mut Vec<u8>,
     packet: &Record<'_>,
     form: Form,
     bytes: &[u8],
     whole: bool,
+    line: &mut Vec<u8>,
 ) -> Result<(), AllocError>
-    ensures { OnOk result (AddsPacket
+    ensures added { OnOk result (AddsPacket
         (record_text form.nano packet.now.number (packet_shown packet.now))
-        bytes.now whole line.old.items line.new.items) }
+        bytes.now whole held.old.items held.new.items) }
+    ensures kept { OnErr result (held.new.items ≡ held.old.items) }
 {
     match Brief::read(bytes) {
-        Some(brief) => push_brief(line, packet, form, brief),
-        None => push_walk(line, packet, form, bytes, whole),
+        Some(brief) => push_brief(held, packet, form, brief),
+        None => push_walked(held, packet, form, bytes, whole, line),
     }
 }
 
-// Adds the line of a record that holds a packet of few headers.
+// Adds the line of a record that holds a packet of few headers, or nothing.
 fn push_brief(
-    line: &mut Vec<u8>,
+    held: &mut Vec<u8>,
     packet: &Record<'_>,
     form: Form,
     brief: Brief,
 ) -> Result<(), AllocError>
-    ensures { OnOk result (line.new.items ≡ line.old.items
+    ensures added { OnOk result (held.new.items ≡ held.old.items
         ++ (record_text form.nano packet.now.number (packet_shown packet.now)
         ++ brief_text brief.mark brief.next ++ codes "\n")) }
+    ensures kept { OnErr result (held.new.items ≡ held.old.items) }
 {
     let mut tail = Tail::new();
     tail.put(b'\n');
     put_brief(&mut tail, brief);
     put_record(&mut tail, packet, form);
-    line.extend_from_slice(tail.text())
+    held.extend_from_slice(tail.text())
+}
+
+// Adds the line of a record that holds a packet of any headers, or nothing. It is made in the other text first.
+#[inline(never)]
+fn push_walked(
+    held: &mut Vec<u8>,
+    packet: &Record<'_>,
+    form: Form,
+    bytes: &[u8],
+    whole: bool,
+    line: &mut Vec<u8>,
+) -> Result<(), AllocError>
+    ensures added { OnOk result (AddsPacket
+        (record_text form.nano packet.now.number (packet_shown packet.now))
+        bytes.now whole held.old.items held.new.items) }
+    ensures kept { OnErr result (held.new.items ≡ held.old.items) }
+{
+    line.clear();
+    push_walk(line, packet, form, bytes, whole)?;
+    held.extend_from_slice(line.as_slice())?;
+    Ok(())
 }
 
 // Adds the line of a record that holds a packet of any headers, by the walk of its chain.
-#[inline(never)]
 fn push_walk(
     line: &mut Vec<u8>,
     packet: &Record<'_>,

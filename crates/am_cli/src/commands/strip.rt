@@ -1,5 +1,5 @@
 //! The command `strip`: the capture without the marks of the domain's flows (RFC 9343, section 4).
-ghost use Rattle.std.specs.Prelude.{◌≡◌, ◌≤◌, ◌+◌, ◌-◌, ⊤, length, drop, OnOk, IfSome, IfNone};
+ghost use Rattle.std.specs.Prelude.{◌≡◌, ◌≤◌, ◌+◌, ◌-◌, ◌++◌, ⊤, length, drop, OnOk, OnErr, IfSome, IfNone};
 ghost use Rattle.am_pcap.specs.Packets.{most_captured};
 ghost use Rattle.am_pcap.specs.Shown.{packet_shown};
 ghost use Rattle.am_pcap.specs.Spelling.{record_bytes};
@@ -11,7 +11,6 @@ ghost use Rattle.am_cli.specs.Shown.{domain_file_shown, answer_of};
 
 use crate::answer::{Stop, Unprinted};
 use crate::inputs::take_domain;
-use crate::piece::Piece;
 use crate::printing::{Printing, print_capture};
 use crate::rewriting::{Matched, change_record, flow_of_record, keep_record};
 use crate::words::DomainFileWords;
@@ -31,38 +30,38 @@ struct StrippedRecords<'a> {
 }
 
 impl Printing for StrippedRecords<'_> {
-    type State = Piece;
+    type State = ();
 
     ghost stream = { λ s. stripped_records s.domain.now };
 
-    ghost knows = { λ s piece h ps. ⊤ };
+    ghost knows = { λ s kept h ps. ⊤ };
 
-    ghost piece = { λ s piece. piece.bytes.items };
-
-    fn begin(&self, alloc: Global, head: &Head) -> Result<Piece, AllocError> {
-        Piece::of(alloc, &head.raw)
+    fn begin(&self, _alloc: Global, head: &Head, held: &mut Vec<u8>) -> Result<(), AllocError> {
+        held.extend_from_slice(&head.raw)?;
+        Ok(())
     }
 
-    fn take(&self, piece: &mut Piece, head: &Head, packet: &Record<'_>) -> Result<(), Unprinted> {
+    fn take(
+        &self,
+        _state: &mut (),
+        head: &Head,
+        packet: &Record<'_>,
+        held: &mut Vec<u8>,
+    ) -> Result<(), Unprinted> {
         match own_mark(self.domain, head, packet) {
-            Some(own) => match strip_record(piece, head, packet, &own) {
+            Some(own) => match strip_record(held, head, packet, &own) {
                 Ok(()) => Ok(()),
                 Err(_) => Err(Unprinted::NoMemory),
             },
-            None => match keep_record(piece, head.form, packet) {
+            None => match keep_record(held, head.form, packet) {
                 Ok(()) => Ok(()),
                 Err(_) => Err(Unprinted::NoMemory),
             },
         }
     }
 
-    fn finish(&self, piece: &mut Piece, _head: &Head) -> Result<(), AllocError> {
-        piece.clear();
+    fn finish(&self, _state: &mut (), _head: &Head, _held: &mut Vec<u8>) -> Result<(), AllocError> {
         Ok(())
-    }
-
-    fn text<'b>(&self, piece: &'b Piece) -> &'b [u8] {
-        &piece.bytes
     }
 }
 
@@ -100,9 +99,9 @@ fn own_mark(domain: &Domain, head: &Head, packet: &Record<'_>) -> Option<OwnMark
     Some(OwnMark { at, edit })
 }
 
-// Makes the piece of a record without its mark.
+// Adds a record without its mark, or nothing where memory runs out.
 fn strip_record(
-    piece: &mut Piece,
+    held: &mut Vec<u8>,
     head: &Head,
     packet: &Record<'_>,
     own: &OwnMark,
@@ -113,13 +112,14 @@ fn strip_record(
     requires shorter { length (edited own.now.edit (drop own.now.at packet.now.bytes.now)) + 8
         ≡ length (drop own.now.at packet.now.bytes.now) }
     requires room { 8 ≤ packet.now.original }
-    ensures { OnOk result (piece.new.bytes.items ≡ record_bytes head.now.form.big
+    ensures added { OnOk result (held.new.items ≡ held.old.items ++ record_bytes head.now.form.big
         (with_packet (packet_shown packet.now) own.now.at
         (edited own.now.edit (drop own.now.at packet.now.bytes.now))
         (packet.now.original - 8))) }
+    ensures kept { OnErr result (held.new.items ≡ held.old.items) }
 {
     let lengths = (packet.bytes.len() as u32 - MOVED, packet.original - MOVED);
-    change_record(piece, head.form, packet, own.at, &own.edit, lengths)
+    change_record(held, head.form, packet, own.at, &own.edit, lengths)
 }
 
 /// Takes the domain, and prints the capture without its marks.

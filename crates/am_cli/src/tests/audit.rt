@@ -2,6 +2,8 @@
 use super::check::TWO;
 use super::link::DOWN;
 use super::*;
+use am_domain::{Domain, read_domain};
+use am_world::{Event, World, capture_of, check_world};
 use std::test::Fail;
 
 const AUDIT: [&str; 2] = ["audit", "two.toml"];
@@ -24,6 +26,16 @@ const TWICE: &str = "scope,flow,block,in,out,lost,delay,din,dout,ddelay
 0,voice,1,0,0,0,0,0,0,0
 0,voice,2,0,0,0,0,0,0,0
 network,voice,0,1,2,-1,-,0,0,0
+network,voice,1,0,0,0,0,0,0,0
+network,voice,2,0,0,0,0,0,0,0
+";
+
+// Two packets are sent. The first, with the delay bit, takes a fifth of a second, and the second is lost.
+const DROPPED: &str = "scope,flow,block,in,out,lost,delay,din,dout,ddelay
+0,voice,0,2,1,1,-,1,1,200000000
+0,voice,1,0,0,0,0,0,0,0
+0,voice,2,0,0,0,0,0,0,0
+network,voice,0,2,1,1,-,1,1,200000000
 network,voice,1,0,0,0,0,0,0,0
 network,voice,2,0,0,0,0,0,0,0
 ";
@@ -87,5 +99,52 @@ fn tells_why_there_is_no_loss_table(rt: HostRuntime) -> Result<(), Fail> {
     let ran = run_over(alloc, &AUDIT, files, NONE)?;
     let line = "altmark: v.pcap: missing\n";
     wants(&rt, &ran, (4, "", line), line);
+    Ok(())
+}
+
+// The capture that a point takes of a world without a breach.
+fn taken(
+    alloc: Global,
+    domain: &Domain,
+    world: &World,
+    node: u32,
+) -> Result<Option<Vec<u8>>, AllocError> {
+    if domain.nodes().len() <= node as usize || check_world(alloc, domain, world)?.is_some() {
+        return Ok(None);
+    }
+    Ok(Some(capture_of(alloc, domain, world, node)?))
+}
+
+#[test]
+fn prints_what_a_world_drops(rt: HostRuntime) -> Result<(), Fail> {
+    let alloc = rt.alloc();
+    let second = 1_000_000_000;
+    let sent = |packet: u64, time: u64, delay: bool| Event::Send {
+        packet,
+        flow: 0,
+        node: 0,
+        time,
+        reading: time,
+        delay,
+    };
+    let arrival = second + second / 5;
+    let world = World::of(vec![in alloc;
+        sent(0, second, true),
+        sent(1, 2 * second, false),
+        Event::Hop {
+            packet: 0,
+            link: 0,
+            time: arrival,
+            reading: arrival
+        },
+        Event::Lost { packet: 1 },
+    ]?);
+    let Ok(domain) = read_domain(alloc, TWO.as_bytes()) else {
+        return Err("a domain".into());
+    };
+    let up = taken(alloc, &domain, &world, 0)?.ok_or("a valid world")?;
+    let down = taken(alloc, &domain, &world, 1)?.ok_or("a valid world")?;
+    let ran = run_audit(alloc, &up, &down, NONE)?;
+    wants(&rt, &ran, (0, DROPPED, ""), "a world");
     Ok(())
 }

@@ -174,8 +174,8 @@ fn shows_what_was_read_before_a_fault(rt: HostRuntime) -> Result<(), Fail> {
     Ok(())
 }
 
-// Of 2,800 records the buffer of 65,536 bytes takes the lines of the first 1,382, which are 65,504 bytes, and then those of
-// 1,337 more, which end at 131,017. One read gives 65,536 bytes, so the first ends in record 1,024 and the second in
+// What is held is written once it is 65,536 bytes or more. Of 2,800 records the lines of the first 1,383 are 65,553 bytes,
+// and those of 1,338 more end at 131,115. One read gives 65,536 bytes, so the first ends in record 1,024 and the second in
 // record 2,048. How many bytes are printed is counted by hand: a line has 41 bytes and twice the digits of its number.
 #[test]
 fn shows_around_the_edge_of_the_buffer(rt: HostRuntime) -> Result<(), Fail> {
@@ -197,13 +197,13 @@ fn shows_around_the_edge_of_the_buffer(rt: HostRuntime) -> Result<(), Fail> {
         (all, read(3), 5, 98_089, "u.pcap: read fault"),
         (all, read(4), 5, 134_986, "u.pcap: read fault"),
         (88_512, write(1), 6, 0, "write fault"),
-        (88_576, write(2), 6, 65_504, "write fault"),
+        (88_640, write(2), 6, 65_553, "write fault"),
         (all, write(1), 6, 0, "write fault"),
-        (all, write(2), 6, 65_504, "write fault"),
-        (all, write(3), 6, 131_017, "write fault"),
-        (all, room(65_503), 6, 65_503, "write fault"),
-        (all, room(65_504), 6, 65_504, "write fault"),
-        (all, room(65_505), 6, 65_505, "write fault"),
+        (all, write(2), 6, 65_553, "write fault"),
+        (all, write(3), 6, 131_115, "write fault"),
+        (all, room(65_552), 6, 65_552, "write fault"),
+        (all, room(65_553), 6, 65_553, "write fault"),
+        (all, room(65_554), 6, 65_554, "write fault"),
     ];
     for (length, faults, status, printed, cause) in rows {
         let cut = altered(alloc, &bytes, &[], length)?;

@@ -6,6 +6,7 @@ use Rattle.am_cli.specs.Chains.{inputs, output}
 use Rattle.am_cli.specs.Shown.{stop_shown}
 use Rattle.am_cli.proofs.ChainLemmas.{nothing}
 use Rattle.am_cli.proofs.HeadlineLemmas.{tells-each}
+use Rattle.am_cli.proofs.LinkHeadlineLemmas.{tells-each-link}
 use Rattle.am_cli.proofs.RunLemmas.{two-exactly, told-obeyed, decided, completed}
 use Rattle.am_cli.proofs.run.run.Goals as goal
 
@@ -74,4 +75,20 @@ returns-in-Err-clause-headline g c =
     (inputs (g.S.Shelf.told c.obey.new.shelf) (g.S.Shelf.faults c.obey.new.shelf) (g.S.Shelf.missed c.obey.new.shelf))
     (output (g.O.Sink.written c.args.out.now) (g.O.Sink.faults c.args.out.now)) (output (g.O.Sink.written c.obey.new.out) (g.O.Sink.faults c.obey.new.out))
     t.answer _ c.laws.ensures (record { drops = c.world_law.ensures.drops; delays = c.world_law.ensures.delays })
+    (told-obeyed _ _ _ _ _ (stop_shown c.in-Err.stop) t.answer t.same c.in-Err.ensures) t.status_is
+
+pub returns-in-Ok-clause-link_headline : goal.returns-in-Ok-clause-link_headline
+returns-in-Ok-clause-link_headline g c =
+    tells-each-link _ (g.S.Shelf.told c.args.shelf.now) (g.S.Shelf.faults c.args.shelf.now) (g.S.Shelf.missed c.args.shelf.now)
+    (inputs (g.S.Shelf.told c.obey.new.shelf) (g.S.Shelf.faults c.obey.new.shelf) (g.S.Shelf.missed c.obey.new.shelf))
+    (output (g.O.Sink.written c.args.out.now) (g.O.Sink.faults c.args.out.now)) (output (g.O.Sink.written c.obey.new.out) (g.O.Sink.faults c.obey.new.out))
+    (Ended Done) _ c.laws.ensures c.link_law.ensures.counts c.in-Ok.ensures refl
+
+pub returns-in-Err-clause-link_headline : goal.returns-in-Err-clause-link_headline
+returns-in-Err-clause-link_headline g c =
+    let t = c.tell.ensures in
+    tells-each-link _ (g.S.Shelf.told c.args.shelf.now) (g.S.Shelf.faults c.args.shelf.now) (g.S.Shelf.missed c.args.shelf.now)
+    (inputs (g.S.Shelf.told c.obey.new.shelf) (g.S.Shelf.faults c.obey.new.shelf) (g.S.Shelf.missed c.obey.new.shelf))
+    (output (g.O.Sink.written c.args.out.now) (g.O.Sink.faults c.args.out.now)) (output (g.O.Sink.written c.obey.new.out) (g.O.Sink.faults c.obey.new.out))
+    t.answer _ c.laws.ensures c.link_law.ensures.counts
     (told-obeyed _ _ _ _ _ (stop_shown c.in-Err.stop) t.answer t.same c.in-Err.ensures) t.status_is

@@ -25,8 +25,8 @@ returns-clause-plan c =
     subst (λ (x : List ℕ). Inserted x c.in-Some.mark c.place.result (edited c.in-Ok.edit x)) rest c.in-Ok.ensures.inserted in
     record {
       marked_in =
-          subst (λ (r : ℕ). IsMarkedIn c.args.domain.now.times r c.block_of-block.result) c.reading.ensures
-          (subst (λ (t : Times). IsMarkedIn t c.reading.result c.block_of-block.result) c.timing.ensures.value c.block_of-block.ensures);
+          subst (λ (r : ℕ). IsMarkedIn c.args.domain.now.times r c.block_near-block.result) c.reading-reading.ensures
+          (subst (λ (t : Times). IsMarkedIn t c.reading-reading.result c.block_near-block.result) c.timing.ensures.value c.block_near-block.ensures);
       mark = c.in-Some.mark;
       flow = λ default. ap (λ m. m.flow) c.in-Some.ensures.value ∙ c.id.ensures ∙ ap (λ f. f.id) (c.index-flows-found.is
           ∙ ap (λ (fs : List FlowValue). get_or fs c.args.found.flow c.index-flows-found.result) c.flows.ensures.value
