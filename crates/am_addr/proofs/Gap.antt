@@ -1,7 +1,7 @@
 -- Where a text is split at its first `::`, and that a text in either form stands split there.
 use Rattle.std.proofs.Common.{arith, refl, ap, sym, subst, ◌∙◌, inl, inr, ◌≡◌, ℕ, suc, ◌+◌, ◌<◌, ◌≤◌, List, [], ◌∷◌, ◌++◌, length, take, drop, Some}
 use Rattle.std.specs.Str.Pattern.{FindsText}
-use Rattle.am_addr.specs.Text.{IsList, IsFull, IsShort, StandsFor}
+use Rattle.am_addr.specs.Text.{IsList, IsFull, IsGapped, IsAddressText}
 use Rattle.am_addr.proofs.Walk.{list_no_end, list_no_gap}
 
 -- no `::` begins in the front
@@ -28,13 +28,13 @@ same_split (f ∷ fs) back (b ∷ bs) behind e first gap end =
 
 -- what stands for values has a `::` or is full
 pub stands_full :
-    (text values : List ℕ) → ((a b : List ℕ) → text ≡ a ++ 58 ∷ 58 ∷ b → ⊥) → StandsFor text values → IsFull text values
+    (text values : List ℕ) → ((a b : List ℕ) → text ≡ a ++ 58 ∷ 58 ∷ b → ⊥) → IsAddressText text values → IsFull text values
 stands_full text values lacks (inl f) = f
 stands_full text values lacks (inr s) = absurd (lacks s.front s.back s.split)
 
 pub stands_short :
-    (text front back values : List ℕ) → text ≡ front ++ 58 ∷ 58 ∷ back → IsFirst front text → StandsFor text values
-    → IsShort front back values
+    (text front back values : List ℕ) → text ≡ front ++ 58 ∷ 58 ∷ back → IsFirst front text → IsAddressText text values
+    → IsGapped front back values
 stands_short text front back values e first (inl f) =
     absurd (list_no_gap front back values (subst (λ (t : List ℕ). IsList values t) e f.list))
 stands_short text front back values e first (inr s) =
@@ -42,7 +42,7 @@ stands_short text front back values e first (inr s) =
     (subst (λ (t : List ℕ). IsFirst front t) e first)
     (λ a b g. list_no_gap a b s.short.before (subst (λ (t : List ℕ). IsList s.short.before t) g s.short.list_before))
     (λ a g. list_no_end a s.short.before (subst (λ (t : List ℕ). IsList s.short.before t) g s.short.list_before)) in
-    subst (λ (t : List ℕ). IsShort t back values) (sym same.0) (subst (λ (t : List ℕ). IsShort s.front t values) (sym same.1) s.short)
+    subst (λ (t : List ℕ). IsGapped t back values) (sym same.0) (subst (λ (t : List ℕ). IsGapped s.front t values) (sym same.1) s.short)
 
 -- what the search for the first `::` gives, in these words
 pub is_first :

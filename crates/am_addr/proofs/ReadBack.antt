@@ -2,7 +2,7 @@
 use Rattle.std.proofs.Common.{arith, refl, ap, sym, subst, ◌∙◌, inl, inr, ◌≡◌, ℕ, zero, suc, ◌+◌, ◌-◌, ◌*◌, ◌/◌, ◌%◌, ◌<◌, ◌≤◌, cond, leb, ltb, true, false, List, [], ◌∷◌, ◌++◌, length, replicate, length-append}
 use Rattle.std.proofs.lemmas.List.{length-replicate}
 use Rattle.std.proofs.lemmas.Bool.{leb-true, leb-false, ltb-true, ltb-false}
-use Rattle.am_addr.specs.Text.{IsDigit, IsGroup, IsList, StandsFor, IsTextOf, bytes_of}
+use Rattle.am_addr.specs.Text.{IsDigit, IsGroup, IsList, IsAddressText, IsTextOf, bytes_of}
 use Rattle.am_addr.specs.Print.{IsPrinted, list_of, group_of, glyph, values_of, AreBytes}
 
 glyph_digit : (d : ℕ) → d < 16 → IsDigit (glyph d) d
@@ -60,7 +60,7 @@ small_back : (xs ys : List ℕ) → AreSmall (xs ++ ys) → AreSmall ys
 small_back [] ys h = h
 small_back (x ∷ xs) ys h = small_back xs ys h.1
 
-pub printed_stands : (text values : List ℕ) → AreSmall values → length values ≡ 8 → IsPrinted text values → StandsFor text values
+pub printed_stands : (text values : List ℕ) → AreSmall values → length values ≡ 8 → IsPrinted text values → IsAddressText text values
 printed_stands text values small eight (inl p) =
     let parts = subst AreSmall p.longest.run.parts small in
     let run = p.longest.run in

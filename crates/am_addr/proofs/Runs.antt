@@ -3,7 +3,7 @@ use Rattle.std.proofs.Common.{arith, refl, ap, sym, subst, ◌∙◌, inl, inr, 
 use Rattle.std.proofs.lemmas.List.{take-append-drop, drop-drop, length-take-le, length-replicate}
 use Rattle.std.proofs.lemmas.Grind.{take_at_read}
 use Rattle.std.proofs.Math.Seq.{drop-append_seam}
-use Rattle.am_addr.specs.Print.{IsRun, IsBestBelow, IsCut, IsUncut, list_of, group_of}
+use Rattle.am_addr.specs.Print.{IsRun, IsBestBelow, IsCompressed, IsUncompressed, list_of, group_of}
 
 split_lt : (a b : ℕ) → a < b + 1 → (a < b) ⊎ (a ≡ b)
 split_lt zero zero h = inr refl
@@ -96,7 +96,7 @@ run_within values front back n run =
 pub is_cut :
     (text values : List ℕ) (at n : ℕ) → at + n ≤ length values → take n (drop at values) ≡ replicate n 0
     → IsBestBelow values (length values) at n → 2 ≤ n → text ≡ list_of (take at values) ++ 58 ∷ 58 ∷ list_of (drop n (drop at values))
-    → IsCut text values
+    → IsCompressed text values
 is_cut text values at n within many best two e = record {
   before = take at values;
   count = n;
@@ -112,7 +112,7 @@ is_cut text values at n within many best two e = record {
 }
 
 pub is_uncut :
-    (text values : List ℕ) (at n : ℕ) → IsBestBelow values (length values) at n → n < 2 → text ≡ list_of values → IsUncut text values
+    (text values : List ℕ) (at n : ℕ) → IsBestBelow values (length values) at n → n < 2 → text ≡ list_of values → IsUncompressed text values
 is_uncut text values at n best few e = record {
   short = λ front m back run. elim (best front m back run (run_within values front back m run)) [ inl l ↦ omega arith | inr s ↦ omega (arith, s.0) ];
   spelled = e;

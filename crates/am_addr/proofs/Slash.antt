@@ -1,6 +1,6 @@
 -- No text of an address has a `/`, so a prefix's text has one alone.
 use Rattle.std.proofs.Common.{arith, sym, subst, inl, inr, ◌≡◌, ℕ, zero, suc, ◌+◌, ◌*◌, ◌<◌, List, [], ◌∷◌, ◌++◌, length, get_or}
-use Rattle.am_addr.specs.Text.{IsDigit, IsList, IsTextOf, StandsFor}
+use Rattle.am_addr.specs.Text.{IsDigit, IsList, IsTextOf, IsAddressText}
 use Rattle.am_addr.specs.Walk.{GoesOn}
 use Rattle.am_addr.proofs.Walk.{list_goes}
 
@@ -34,7 +34,7 @@ unfolding Lacks
 list_lacks [] values l = tt
 list_lacks (c ∷ cs) values l = goes_lacks (c ∷ cs) values 0 0 (list_goes values (c ∷ cs) l (omega arith))
 
-stands_lacks : (text values : List ℕ) → StandsFor text values → Lacks text
+stands_lacks : (text values : List ℕ) → IsAddressText text values → Lacks text
 unfolding Lacks
 stands_lacks text values (inl f) = list_lacks text values f.list
 stands_lacks text values (inr s) =

@@ -1,6 +1,6 @@
 -- A text stands for one address alone, and for one prefix alone.
 use Rattle.std.proofs.Common.{arith, refl, ap, sym, subst, ◌∙◌, inl, inr, ◌≡◌, ℕ, suc, ◌+◌, ◌*◌, ◌<◌, List, [], ◌∷◌, ◌++◌, length, get_or}
-use Rattle.am_addr.specs.Text.{IsList, IsShort, StandsFor, IsTextOf, bytes_of}
+use Rattle.am_addr.specs.Text.{IsList, IsGapped, IsAddressText, IsTextOf, bytes_of}
 use Rattle.am_addr.specs.Bits.{Span, Decimal, IsPrefixText, cleared}
 use Rattle.am_addr.specs.Walk.{GoesOn}
 use Rattle.am_addr.proofs.Walk.{digit_no_colon, one_digit, list_goes, list_empty, list_no_gap, list_no_end}
@@ -56,21 +56,21 @@ gap-alone (f ∷ fs) back (b ∷ bs) behind e p q =
     let rest = gap-alone fs back bs behind tails (plain-tail f fs p) (plain-tail b bs q) in
     (cc (heads, rest.0), rest.1)
 
-short-alone : (front back vs ws : List ℕ) → IsShort front back vs → IsShort front back ws → vs ≡ ws
+short-alone : (front back vs ws : List ℕ) → IsGapped front back vs → IsGapped front back ws → vs ≡ ws
 short-alone front back vs ws a b =
     let before = list-alone front a.before b.before a.list_before b.list_before in
     let behind = list-alone back a.behind b.behind a.list_behind b.list_behind in
     a.filled ∙ rw (before, behind) (sym b.filled)
 
-stands-alone : (text vs ws : List ℕ) → StandsFor text vs → StandsFor text ws → vs ≡ ws
+stands-alone : (text vs ws : List ℕ) → IsAddressText text vs → IsAddressText text ws → vs ≡ ws
 stands-alone text vs ws (inl a) (inl b) = list-alone text vs ws a.list b.list
 stands-alone text vs ws (inl a) (inr b) = absurd ((list-plain vs text a.list).gap b.front b.back b.split)
 stands-alone text vs ws (inr a) (inl b) = absurd ((list-plain ws text b.list).gap a.front a.back a.split)
 stands-alone text vs ws (inr a) (inr b) =
     let same = gap-alone a.front a.back b.front b.back (sym a.split ∙ b.split)
     (list-plain a.short.before a.front a.short.list_before) (list-plain b.short.before b.front b.short.list_before) in
-    let short : IsShort b.front b.back vs =
-    subst (λ (t : List ℕ). IsShort b.front t vs) same.1 (subst (λ (t : List ℕ). IsShort t a.back vs) same.0 a.short) in
+    let short : IsGapped b.front b.back vs =
+    subst (λ (t : List ℕ). IsGapped b.front t vs) same.1 (subst (λ (t : List ℕ). IsGapped t a.back vs) same.0 a.short) in
     short-alone b.front b.back vs ws short b.short
 
 pub address-alone : (text a b : List ℕ) → IsTextOf text a → IsTextOf text b → a ≡ b

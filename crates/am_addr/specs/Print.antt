@@ -29,7 +29,7 @@ pub record IsBest (values before : List ℕ) (count : ℕ) : Type 0 where
   pub best : (front : List ℕ) (n : ℕ) (back : List ℕ) → IsRun values front n back → (n < count) ⊎ ((n ≡ count) × (length before ≤ length front))
 
 -- the longest run, of two values or more, is written as `::`
-pub record IsCut (text values : List ℕ) : Type 0 where
+pub record IsCompressed (text values : List ℕ) : Type 0 where
   pub before : List ℕ
   pub count : ℕ
   pub longest : IsBest values before count
@@ -37,13 +37,13 @@ pub record IsCut (text values : List ℕ) : Type 0 where
   pub spelled : text ≡ list_of before ++ 58 ∷ 58 ∷ list_of longest.behind
 
 -- there is no run of two values or more, and all are written
-pub record IsUncut (text values : List ℕ) : Type 0 where
+pub record IsUncompressed (text values : List ℕ) : Type 0 where
   pub short : (front : List ℕ) (n : ℕ) (back : List ℕ) → IsRun values front n back → n < 2
   pub spelled : text ≡ list_of values
 
 -- the printed text of an address with these values
 abbrev pub IsPrinted : List ℕ → List ℕ → Type 0
-IsPrinted text values = IsCut text values ⊎ IsUncut text values
+IsPrinted text values = IsCompressed text values ⊎ IsUncompressed text values
 
 -- the values of bytes: two bytes each, the higher first
 abbrev pub values_of : List ℕ → List ℕ

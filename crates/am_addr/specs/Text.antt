@@ -28,7 +28,7 @@ pub record IsFull (text values : List ℕ) : Type 0 where
   pub eight : length values ≡ 8
 
 -- two lists, either of which may be empty, of at most seven groups together, and 0 for each value that is missing between them
-pub record IsShort (front back values : List ℕ) : Type 0 where
+pub record IsGapped (front back values : List ℕ) : Type 0 where
   pub before : List ℕ
   pub behind : List ℕ
   pub list_before : IsList before front
@@ -41,11 +41,11 @@ pub record IsShortened (text values : List ℕ) : Type 0 where
   pub front : List ℕ
   pub back : List ℕ
   pub split : text ≡ front ++ 58 ∷ 58 ∷ back
-  pub short : IsShort front back values
+  pub short : IsGapped front back values
 
 -- the text stands for an address that has these values, in one of the two ways
-abbrev pub StandsFor : List ℕ → List ℕ → Type 0
-StandsFor text values = IsFull text values ⊎ IsShortened text values
+abbrev pub IsAddressText : List ℕ → List ℕ → Type 0
+IsAddressText text values = IsFull text values ⊎ IsShortened text values
 
 -- the bytes of values: two each, the higher first
 abbrev pub bytes_of : List ℕ → List ℕ
@@ -55,5 +55,5 @@ bytes_of (v ∷ vs) = (v / 256) ∷ (v % 256) ∷ bytes_of vs
 -- the text stands for the address that has these bytes
 pub record IsTextOf (text bytes : List ℕ) : Type 0 where
   pub values : List ℕ
-  pub stands : StandsFor text values
+  pub stands : IsAddressText text values
   pub spelled : bytes ≡ bytes_of values

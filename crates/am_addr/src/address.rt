@@ -3,7 +3,7 @@
 //! The form whose last two values are written as an IPv4 address is not read.
 
 ghost use Rattle.std.specs.Prelude.{◌≡◌, ℕ, ◌+◌, ◌-◌, ◌/◌, ◌%◌, ◌≤◌, List, ◌++◌, length, replicate, Some, IfSome, IfNone, IsSomeAnd};
-ghost use Rattle.am_addr.specs.Text.{StandsFor, IsShort, IsFull, IsTextOf, bytes_of};
+ghost use Rattle.am_addr.specs.Text.{IsAddressText, IsGapped, IsFull, IsTextOf, bytes_of};
 ghost use Rattle.am_addr.specs.Walk.{listed};
 
 use crate::groups::Groups;
@@ -70,8 +70,8 @@ fn low(value: u16) -> u8
 
 // The eight values that a text stands for.
 fn values_in(text: &str) -> Option<[u16; 8]>
-    ensures only { IfSome result (λ vs. StandsFor text.now vs) }
-    ensures found { (values : List ℕ) → StandsFor text.now values → IsSomeAnd result (λ vs. vs ≡ values) }
+    ensures only { IfSome result (λ vs. IsAddressText text.now vs) }
+    ensures found { (values : List ℕ) → IsAddressText text.now values → IsSomeAnd result (λ vs. vs ≡ values) }
 {
     let Some((front, back)) = text.split_once("::") else {
         return full(text.as_bytes());
@@ -95,8 +95,8 @@ fn full(text: &[u8]) -> Option<[u16; 8]>
 
 // The values of the lists before and behind a `::`.
 fn short(front: &[u8], back: &[u8]) -> Option<[u16; 8]>
-    ensures only { IfSome result (λ vs. IsShort front.now back.now vs) }
-    ensures found { (values : List ℕ) → IsShort front.now back.now values → IsSomeAnd result (λ vs. vs ≡ values) }
+    ensures only { IfSome result (λ vs. IsGapped front.now back.now vs) }
+    ensures found { (values : List ℕ) → IsGapped front.now back.now values → IsSomeAnd result (λ vs. vs ≡ values) }
 {
     let Some(before) = list_of(front) else {
         return None;

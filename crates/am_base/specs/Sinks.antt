@@ -1,6 +1,9 @@
 -- What a sink of bytes tells: the bytes that were written to it. And what a buffer in front of it has taken in.
-use Rattle.std.specs.Prelude.{◌≡◌, ℕ, ◌≤◌, List, ◌++◌, length, take, Option}
+use Rattle.std.specs.Prelude.{◌≡◌, ℕ, ◌≤◌, List, ◌++◌, length, take, Option, ⊤}
 use Rattle.std.specs.Io.KnownBytes.{append_known}
+use Rattle.am_base.specs.Counts.{Rose}
+use Rattle.am_base.specs.declared.sink.OutError.{OutError}
+use Rattle.am_base.specs.declared.sink.OutError.TheVariants.{Fault, Memory}
 
 -- a front of these bytes was appended
 abbrev pub AppendsFront : Option (List ℕ) → Option (List ℕ) → List ℕ → Type 0
@@ -31,3 +34,8 @@ WritesAll old held new =
 abbrev pub WritesFront : Option (List ℕ) → List ℕ → Option (List ℕ) → Type 0
 WritesFront old held new =
     (start : Option (List ℕ)) (text : List ℕ) → IsWrittenOf start old held text → AppendsFront start new text
+
+-- a fault is answered only where the sink's count of faults rose
+abbrev pub FaultRose : OutError → ℕ → ℕ → Type 0
+FaultRose Fault before after = Rose before after
+FaultRose Memory before after = ⊤

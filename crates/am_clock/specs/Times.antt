@@ -1,5 +1,6 @@
 -- Blocks of marking, their colours, and which block a record belongs to (RFC 9341, sections 3.1 and 5). All times are nanoseconds.
-use Rattle.std.specs.Prelude.{◌≡◌, ℕ, ◌+◌, ◌-◌, ◌*◌, ◌/◌, ◌%◌, ◌^◌, ◌<◌, ◌≤◌, Bool, true, false, ◌&&◌, ◌==◌, nat_le, nat_lt}
+use Rattle.std.specs.Prelude.{◌≡◌, ℕ, ◌+◌, ◌-◌, ◌*◌, ◌/◌, ◌%◌, ◌<◌, ◌≤◌, Bool, true, false, ◌&&◌, ◌==◌, nat_le, nat_lt}
+use Rattle.am_clock.specs.declared.timing.TheConstants.{MAX_TIME}
 
 -- the four numbers of a timing: how long a block lasts, how far two clocks may differ, and the bounds of the delay
 pub record Times : Type 0 where
@@ -25,8 +26,8 @@ guard t = t.skew + (t.delay_max - t.delay_min)
 pub record IsTiming (t : Times) : Type 0 where
   pub nonzero : 0 < t.block
   pub even : t.block % 2 ≡ 0
-  pub short : t.block ≤ 2 ^ 40
-  pub near : t.delay_max ≤ 2 ^ 40
+  pub short : t.block ≤ MAX_TIME
+  pub near : t.delay_max ≤ MAX_TIME
   pub in_order : t.delay_min ≤ t.delay_max
   pub guarded : guard t < half t
 

@@ -10,4 +10,4 @@
 
 mod timing;
 
-pub use timing::{Timing, TimingError, colour_of};
+pub use timing::{MAX_TIME, Timing, TimingError, colour_of};

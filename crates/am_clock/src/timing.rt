@@ -1,6 +1,6 @@
 //! The numbers of a measurement's time, and which block a record belongs to.
 
-ghost use Rattle.std.specs.Prelude.{◌≡◌, ℕ, ◌+◌, ◌*◌, ◌/◌, ◌%◌, ◌^◌, ◌<◌, ◌≤◌, IsTrue, ◌↔◌, IfOk, IfErr, IfSome, IfNone, Ok, Err, Some, None};
+ghost use Rattle.std.specs.Prelude.{◌≡◌, ℕ, ◌+◌, ◌*◌, ◌/◌, ◌%◌, ◌<◌, ◌≤◌, IsTrue, ◌↔◌, IfOk, IfErr, IfSome, IfNone, Ok, Err, Some, None};
 ghost use Rattle.am_clock.specs.Times.{Times, times_of, half, IsTiming, parity, IsMarkedIn, belongs_to};
 ghost use Rattle.am_clock.specs.Epochs.{IsEpoch, Means};
 ghost use Rattle.am_clock.specs.Refusals.{IsFirstFault};
@@ -8,9 +8,9 @@ ghost use Rattle.am_clock.specs.Covered.{StartsIn, EndsIn, IsCovered, IsFirstFro
 
 use std::marker::Model;
 
-// The longest block, and the longest delay of a link, in nanoseconds: about 18 minutes. It bounds the width
-// of a window and its shift, so that a reading's offset in its block stays below 2^42.
-const LONGEST: u64 = 1 << 40;
+/// The longest block, and the longest delay of a link, in nanoseconds: 2^40, about 18 minutes. It bounds the width
+/// of a window and its shift, so that a reading's offset in its block stays below 2^42.
+pub const MAX_TIME: u64 = 1 << 40;
 
 /// The numbers of a measurement's time, all in nanoseconds: how long a block lasts, how far two clocks
 /// may differ, and the least and the greatest delay of a link.
@@ -95,7 +95,7 @@ impl Timing {
     /// The least delay of a link, in nanoseconds: at most 2^40.
     pub fn delay_min(&self) -> u64
         ensures value { result ≡ self.now.delay_min }
-        ensures most { result ≤ 2 ^ 40 }
+        ensures most { result ≤ MAX_TIME }
     {
         self.delay_min
     }
@@ -103,7 +103,7 @@ impl Timing {
     /// The greatest delay of a link, in nanoseconds: at most 2^40.
     pub fn delay_max(&self) -> u64
         ensures value { result ≡ self.now.delay_max }
-        ensures most { result ≤ 2 ^ 40 }
+        ensures most { result ≤ MAX_TIME }
     {
         self.delay_max
     }
@@ -123,7 +123,7 @@ impl Timing {
     /// by the shift. The windows of one colour touch and do not overlap. There is no block exactly where
     /// the reading is before the first window of the colour.
     pub fn attribute(&self, reading: u64, colour: bool, shift: u64) -> Option<u64>
-        requires { shift ≤ 2 ^ 40 }
+        requires { shift ≤ MAX_TIME }
 
         // There is at most one such block, and it is found.
         ensures found { (n : ℕ) → IsTrue (belongs_to self.now reading colour shift n) → result ≡ Some n }
@@ -140,7 +140,7 @@ impl Timing {
     /// The block that `attribute` answers, found faster where it is the likely one: where the record belongs to that
     /// block nothing is divided.
     pub fn attribute_near(&self, likely: u64, reading: u64, colour: bool, shift: u64) -> Option<u64>
-        requires { shift ≤ 2 ^ 40 }
+        requires { shift ≤ MAX_TIME }
         ensures found { (n : ℕ) → IsTrue (belongs_to self.now reading colour shift n) → result ≡ Some n }
         ensures belongs { IfSome result (λ n. IsTrue (belongs_to self.now reading colour shift n)) }
         ensures none { IfNone result (reading + half self.now < parity colour * self.now.block + shift) }
@@ -155,7 +155,7 @@ impl Timing {
     // Whether a record with this reading and colour belongs to the block, found without a division. False too where the
     // block begins behind every reading.
     fn belongs(&self, number: u64, reading: u64, colour: bool, shift: u64) -> bool
-        requires { shift ≤ 2 ^ 40 }
+        requires { shift ≤ MAX_TIME }
         ensures valid { IsTiming self.now }
         ensures belongs { IsTrue result → IsTrue (belongs_to self.now reading colour shift number) }
     {
@@ -185,7 +185,7 @@ impl Timing {
     /// many blocks, counted from block 0, have windows with every reading below `until`. No reading is
     /// below 0, so a span from 0 covers block 0 although its window may begin before.
     pub fn covered(&self, from: u64, until: u64, shift: u64) -> (u64, u64)
-        requires { shift ≤ 2 ^ 40 }
+        requires { shift ≤ MAX_TIME }
         ensures first { (n : ℕ) → (result.0 ≤ n) ↔ StartsIn self.now from shift n }
         ensures count { (n : ℕ) → (n < result.1) ↔ EndsIn self.now until shift n }
         ensures covered { (n : ℕ) → ((result.0 ≤ n) × (n < result.1)) ↔ IsCovered self.now from until shift n }
@@ -196,7 +196,7 @@ impl Timing {
     // The least block whose window has no reading before this one: the block behind the last whose window
     // has begun at the reading before.
     fn first_from(&self, from: u64, shift: u64) -> u64
-        requires { shift ≤ 2 ^ 40 }
+        requires { shift ≤ MAX_TIME }
         ensures valid { IsTiming self.now }
         ensures first { IsFirstFrom self.now from shift result }
     {
@@ -212,7 +212,7 @@ impl Timing {
 
     // How many blocks, counted from block 0, have windows with every reading below this one.
     fn count_until(&self, until: u64, shift: u64) -> u64
-        requires { shift ≤ 2 ^ 40 }
+        requires { shift ≤ MAX_TIME }
         ensures valid { IsTiming self.now }
         ensures count { IsCountUntil self.now until shift result }
     {
@@ -221,7 +221,7 @@ impl Timing {
 
     // The epoch of the reading: the last block whose window has begun. None where no window has.
     fn epoch(&self, reading: u64, shift: u64) -> Option<u64>
-        requires { shift ≤ 2 ^ 40 }
+        requires { shift ≤ MAX_TIME }
         ensures valid { IsTiming self.now }
         ensures epoch { IfSome result (λ n. IsEpoch self.now reading shift n) }
         ensures none { IfNone result (reading + half self.now < shift) }
@@ -248,10 +248,10 @@ fn first_fault(block: u64, skew: u64, delay_min: u64, delay_max: u64) -> Option<
     if block % 2 == 1 {
         return Some(TimingError::OddBlock);
     }
-    if block > LONGEST {
+    if block > MAX_TIME {
         return Some(TimingError::BlockTooLong);
     }
-    if delay_max > LONGEST {
+    if delay_max > MAX_TIME {
         return Some(TimingError::DelayTooLong);
     }
     if delay_min > delay_max {

@@ -12,9 +12,10 @@ use Rattle.am_domain.specs.Tables.{SaysFlow, SaysNode}
 use Rattle.am_domain.specs.Entries.{IsTableOf}
 use Rattle.am_domain.specs.Fields.{FieldsValue, Says}
 use Rattle.am_domain.specs.Network.{IsNumberOf, Joins, SameEnds, HasLink, has_links_in, shift_at, IsFirstBlock, IsEndBlock, Covers, IsReported, IsWindowWithin, AreWindowsWithin}
-use Rattle.am_domain.specs.Rules.{Each, AreDistinct, EndsDiffer, SameNodeName}
+use Rattle.am_domain.specs.Rules.{timed, few_nodes, few_links, few_flows, flow_names_differ, flow_ids_differ, node_names_differ, ends_differ, links_differ, nodes_have_links, Each, AreDistinct, EndsDiffer, SameNodeName}
 use Rattle.am_domain.specs.Domains.{DomainValue, SameNodes, IsLinked, IsMadeOf, IsLawful}
 use Rattle.am_domain.specs.declared.link.Edge.{Edge}
+use Rattle.am_domain.proofs.RuleLemmas.{kept-rule}
 
 -- what each pair gives of its second, each second has
 pub zip_each : {A B : Type 0} (R : A → B → Type 0) (P : B → Type 0) → ((x : A) (y : B) → R x y → P y) → (xs : List A) (ys : List B) → AllZip R xs ys → Each P ys
@@ -134,8 +135,8 @@ windows_within t nodes links block timing all k d h =
 pub lawful : (ms : Members) (f : FieldsValue) (d : DomainValue) → Says ms f → IsMadeOf f d → d.first < d.end → length d.flows * (d.end - d.first) ≤ 32768 → IsLawful d
 lawful ms f d says made some few =
     let workers = workers_within _ f.marking.workers says.marking.says.workers in
-    let kept = made.kept in
-    let timing : IsTiming d.times = subst (λ (t : Times). IsTiming t) (sym made.times) kept.0 in
+    let kept = kept-rule f made.kept in
+    let timing : IsTiming d.times = subst (λ (t : Times). IsTiming t) (sym made.times) (kept timed) in
     let starts : IsFirstBlock d.times d.nodes d.links d.first = rw (made.times, made.nodes) made.laid_out.starts in
     let ends : IsEndBlock d.times d.nodes d.links d.end = rw (made.times, made.nodes) made.laid_out.ends in
     record {
@@ -143,22 +144,22 @@ lawful ms f d says made some few =
       some_worker = omega (arith, workers.0, made.workers);
       few_workers = omega (arith, workers.1, made.workers);
       some_flow = omega (arith, says.flows.some, AllZip-long (IsTableOf SaysFlow) says.flows.items f.flows says.flows.each, ap length made.flows);
-      few_flows = omega (arith, kept.1.1.1.0, ap length made.flows);
-      few_nodes = omega (arith, kept.1.0, ap length made.nodes);
-      few_links = omega (arith, kept.1.1.0, AllZip-long (Joins f.nodes) f.links d.links made.laid_out.joined);
+      few_flows = omega (arith, (kept few_flows), ap length made.flows);
+      few_nodes = omega (arith, (kept few_nodes), ap length made.nodes);
+      few_links = omega (arith, (kept few_links), AllZip-long (Joins f.nodes) f.links d.links made.laid_out.joined);
       flow_names = subst (λ (fs : List FlowValue). Each (λ x. IsName x.name) fs) (sym made.flows) (zip_each (IsTableOf SaysFlow) (λ x. IsName x.name) (λ x y r. r.says.name.1) says.flows.items f.flows says.flows.each);
       flow_ids = subst (λ (fs : List FlowValue). Each (λ x. x.id ≤ 1048575) fs) (sym made.flows) (zip_each (IsTableOf SaysFlow) (λ x. x.id ≤ 1048575) (λ x y r. r.says.id.1) says.flows.items f.flows says.flows.each);
       node_names = subst (λ (ns : List NodeValue). Each (λ x. IsName x.name) ns) (sym made.nodes) (zip_each (IsTableOf SaysNode) (λ x. IsName x.name) (λ x y r. r.says.name.1) says.nodes.items f.nodes says.nodes.each);
       captures = subst (λ (ns : List NodeValue). Each (λ x. IsFileName x.capture) ns) (sym made.nodes) (zip_each (IsTableOf SaysNode) (λ x. IsFileName x.capture) (λ x y r. r.says.capture.1) says.nodes.items f.nodes says.nodes.each);
       from_readings = rw made.nodes (zip_each (IsTableOf SaysNode) (λ x. IsReading x.from) (λ x y r. r.says.from.1) says.nodes.items f.nodes says.nodes.each);
       until_readings = rw made.nodes (zip_each (IsTableOf SaysNode) (λ x. IsReading x.until) (λ x y r. r.says.until.1) says.nodes.items f.nodes says.nodes.each);
-      flow_names_differ = rw made.flows kept.1.1.1.1.0;
-      flow_ids_differ = rw made.flows kept.1.1.1.1.1.0;
-      node_names_differ = rw made.nodes kept.1.1.1.1.1.1.0;
+      flow_names_differ = rw made.flows (kept flow_names_differ);
+      flow_ids_differ = rw made.flows (kept flow_ids_differ);
+      node_names_differ = rw made.nodes (kept node_names_differ);
       links_within = rw made.nodes (zip_each (Joins f.nodes) (λ e. (e.from < length f.nodes) × (e.to < length f.nodes)) (λ x y r. (r.from.within, r.to.within)) f.links d.links made.laid_out.joined);
-      ends_differ = numbers_differ f.nodes f.links d.links made.laid_out.joined kept.1.1.1.1.1.1.1.1.0;
-      links_differ = pairs_differ f.nodes f.links d.links made.laid_out.joined kept.1.1.1.1.1.1.1.1.1.0;
-      nodes_linked = rw made.nodes (linked f.nodes f.links d.links made.laid_out.joined kept.1.1.1.1.1.1.0 kept.1.1.1.1.1.1.1.1.1.1.0);
+      ends_differ = numbers_differ f.nodes f.links d.links made.laid_out.joined (kept ends_differ);
+      links_differ = pairs_differ f.nodes f.links d.links made.laid_out.joined (kept links_differ);
+      nodes_linked = rw made.nodes (linked f.nodes f.links d.links made.laid_out.joined (kept node_names_differ) (kept nodes_have_links));
       shifts = λ k h. shift_short d.times d.nodes d.links k timing;
       reported = covered_at_each d.times d.nodes d.links d.first d.end starts ends;
       some_block = some;

@@ -1,22 +1,15 @@
 -- The first bad part is one alone, and there is none where the document says something.
-use Rattle.std.proofs.Common.{◌≡◌, ℕ, ◌<◌, List, [], ◌∷◌, take, zero, suc, slice_get, Option, Some, subst, sym, ap, ◌∙◌, refl, inl, inr, arith}
+use Rattle.std.proofs.Common.{◌≡◌, ℕ, slice_get, Option, Some, subst, sym, ap, ◌∙◌, refl, inl, inr}
 use Rattle.std.proofs.lemmas.Bool.{cases_order, true≢false}
 use Rattle.std.proofs.lemmas.Option.{same_Some}
-use Rattle.std.specs.List.{AllByRecursion}
 use Rattle.toml.specs.Data.{Members}
 use Rattle.am_domain.specs.Tables.{SaysFlow, SaysNode, SaysLink}
 use Rattle.am_domain.specs.Fields.{FieldsValue, SaysTimes, SaysMarking, Says, at_part, IsRightPart, IsBadPart, parts, part_place, IsBadField}
 use Rattle.am_domain.specs.declared.error.Part.{Part}
 use Rattle.am_domain.specs.declared.error.Part.TheVariants.{Top, Timing, Marking, Flow, Node, Link}
 use Rattle.am_domain.specs.declared.error.Key.{Key}
+use Rattle.am_domain.proofs.ListLemmas.{one-of-first}
 use Rattle.am_domain.proofs.FirstAlone.{flow_right, node_right, link_right, times_right, marking_right, array_alone, array_says, table_alone, table_says}
-
--- what each of the first n has, one of them has
-pub one_of : {X : Type 0} (P : X → Type 0) (xs : List X) (n i : ℕ) (x : X) → AllByRecursion P (take n xs) → i < n → slice_get xs i ≡ Some x → P x
-one_of P [] n i x all h e = cc e
-one_of P (y ∷ ys) zero i x all h e = absurd (omega (arith, h))
-one_of P (y ∷ ys) (suc n) zero x all h e = subst P (same_Some _ _ e) all.0
-one_of P (y ∷ ys) (suc n) (suc i) x all h e = one_of P ys n i x all.1 (omega arith) e
 
 part_at : (p : Part) → slice_get parts (part_place p) ≡ Some p
 part_at Top = refl
@@ -62,8 +55,8 @@ same_part ms p p' i i' k k' a b =
     elim (cases_order (part_place p) (part_place p')) [
       | inl e ↦ same_Some p p' (sym (part_at p) ∙ ap (slice_get parts) e ∙ part_at p')
       | inr h ↦ elim h [
-        | inl before ↦ absurd (right_bad ms p i k (one_of (IsRightPart ms) parts (part_place p') (part_place p) p b.before before (part_at p)) a.bad)
-        | inr behind ↦ absurd (right_bad ms p' i' k' (one_of (IsRightPart ms) parts (part_place p) (part_place p') p' a.before behind (part_at p')) b.bad)
+        | inl before ↦ absurd (right_bad ms p i k (one-of-first (IsRightPart ms) parts (part_place p') (part_place p) p b.before before (part_at p)) a.bad)
+        | inr behind ↦ absurd (right_bad ms p' i' k' (one-of-first (IsRightPart ms) parts (part_place p) (part_place p') p' a.before behind (part_at p')) b.bad)
       ]
     ]
 

@@ -6,7 +6,7 @@ use Rattle.toml.specs.View.{items_of}
 use Rattle.am_clock.specs.Times.{Times}
 use Rattle.am_domain.specs.Values.{FlowValue, NodeValue, LinkValue}
 use Rattle.am_domain.specs.First.{IsFirstNot}
-use Rattle.am_domain.specs.Keys.{IsRight}
+use Rattle.am_domain.specs.Keys.{IsRightTable}
 use Rattle.am_domain.specs.Tables.{order, SaysFlow, SaysNode, SaysLink, IsBadKey}
 use Rattle.am_domain.specs.Entries.{IsTableOf, IsBadItem, IsBadAt, AreEntries, IsBadArray}
 use Rattle.am_domain.specs.Fields.{MarkingValue, SaysTimes, SaysMarking, IsTableAt, IsBadTable}
@@ -29,19 +29,19 @@ none_first Right (z ∷ zs) x all (inl a) = a.1 all.0
 none_first Right (z ∷ zs) x all (inr a) = none_first Right zs x all.1 a.1
 
 -- what a table says, its keys are right for
-pub flow_right : (ms : Members) (f : FlowValue) → SaysFlow ms f → AllByRecursion (IsRight Flow ms) (order Flow)
+pub flow_right : (ms : Members) (f : FlowValue) → SaysFlow ms f → AllByRecursion (IsRightTable Flow ms) (order Flow)
 flow_right ms f h = ((f.name, h.name), ((f.id, h.id), ((f.source, h.source), ((f.destination, h.destination), (h.known, tt)))))
 
-pub node_right : (ms : Members) (n : NodeValue) → SaysNode ms n → AllByRecursion (IsRight Node ms) (order Node)
+pub node_right : (ms : Members) (n : NodeValue) → SaysNode ms n → AllByRecursion (IsRightTable Node ms) (order Node)
 node_right ms n h = ((n.name, h.name), ((n.capture, h.capture), ((n.from, h.from), ((n.until, h.until), (h.known, tt)))))
 
-pub link_right : (ms : Members) (l : LinkValue) → SaysLink ms l → AllByRecursion (IsRight Link ms) (order Link)
+pub link_right : (ms : Members) (l : LinkValue) → SaysLink ms l → AllByRecursion (IsRightTable Link ms) (order Link)
 link_right ms l h = ((l.from, h.from), ((l.to, h.to), (h.known, tt)))
 
-pub times_right : (ms : Members) (t : Times) → SaysTimes ms t → AllByRecursion (IsRight Timing ms) (order Timing)
+pub times_right : (ms : Members) (t : Times) → SaysTimes ms t → AllByRecursion (IsRightTable Timing ms) (order Timing)
 times_right ms t h = ((t.block, h.block), ((t.skew, h.skew), ((t.delay_min, h.delay_min), ((t.delay_max, h.delay_max), (h.known, tt)))))
 
-pub marking_right : (ms : Members) (m : MarkingValue) → SaysMarking ms m → AllByRecursion (IsRight Marking ms) (order Marking)
+pub marking_right : (ms : Members) (m : MarkingValue) → SaysMarking ms m → AllByRecursion (IsRightTable Marking ms) (order Marking)
 marking_right ms m h = ((m.kind, h.place), ((m.workers, h.workers), (h.known, tt)))
 
 -- what is bad about an item is one alone
@@ -51,15 +51,15 @@ item_alone part d None (Some k) a b = absurd (a b.0 b.1)
 item_alone part d (Some k) None a b = absurd (b a.0 a.1)
 item_alone part d (Some k) (Some k') a b =
     let same : a.0 ≡ b.0 = cc (a.1, b.1) in
-    ap Some (first_alone (IsRight part b.0) (order part) k k' (subst (λ (ms : Members). IsBadKey part ms k) same a.2) b.2)
+    ap Some (first_alone (IsRightTable part b.0) (order part) k k' (subst (λ (ms : Members). IsBadKey part ms k) same a.2) b.2)
 
-module _ {X : Type 0} (part : Part) (Said : Members → X → Type 0) (right : (ms : Members) (x : X) → Said ms x → AllByRecursion (IsRight part ms) (order part)) where
+module _ {X : Type 0} (part : Part) (Said : Members → X → Type 0) (right : (ms : Members) (x : X) → Said ms x → AllByRecursion (IsRightTable part ms) (order part)) where
   -- an item that says something is not bad
   item_says : (d : Data) (x : X) (k : Option Key) → IsTableOf Said d x → IsBadItem part d k → ⊥
   item_says d x None h b = b h.ms h.is_table
   item_says d x (Some k) h b =
       let same : b.0 ≡ h.ms = cc (b.1, h.is_table) in
-      none_first (IsRight part h.ms) (order part) k (right h.ms x h.says) (subst (λ (ms : Members). IsBadKey part ms k) same b.2)
+      none_first (IsRightTable part h.ms) (order part) k (right h.ms x h.says) (subst (λ (ms : Members). IsBadKey part ms k) same b.2)
 
   -- the item behind some that say something each, in a list that says something each
   item_at : (before : List Data) (d : Data) (behind : List Data) (xs : List X) → AllZip (IsTableOf Said) (before ++ d ∷ behind) xs → (x : X) × IsTableOf Said d x
@@ -114,7 +114,7 @@ some_items : (before : List Data) (d : Data) (behind : List Data) → (c : Data)
 some_items [] d behind = (d, items_of behind, refl)
 some_items (b ∷ before) d behind = (b, items_of (before ++ d ∷ behind), refl)
 
-module _ {X : Type 0} (part : Part) (Said : Members → X → Type 0) (right : (ms : Members) (x : X) → Said ms x → AllByRecursion (IsRight part ms) (order part)) where
+module _ {X : Type 0} (part : Part) (Said : Members → X → Type 0) (right : (ms : Members) (x : X) → Said ms x → AllByRecursion (IsRightTable part ms) (order part)) where
   -- what is wrong with an array is one alone
   pub array_alone : (at : Option Data) (i i' : Option ℕ) (k k' : Option Key) → IsBadArray part Said at i k → IsBadArray part Said at i' k' → (i ≡ i') × (k ≡ k')
   array_alone at None None None None a b = (refl, refl)
@@ -152,15 +152,15 @@ table_alone part at None None None (Some k') a b = absurd (a b.0 b.1)
 table_alone part at None None (Some k) None a b = absurd (b a.0 a.1)
 table_alone part at None None (Some k) (Some k') a b =
     let same : a.0 ≡ b.0 = cc (a.1, b.1) in
-    (refl, ap Some (first_alone (IsRight part b.0) (order part) k k' (subst (λ (ms : Members). IsBadKey part ms k) same a.2) b.2))
+    (refl, ap Some (first_alone (IsRightTable part b.0) (order part) k k' (subst (λ (ms : Members). IsBadKey part ms k) same a.2) b.2))
 table_alone part at None (Some i') k k' a b = absurd b
 table_alone part at (Some i) i' k k' a b = absurd a
 
 -- a table that says something has nothing wrong
-pub table_says : {X : Type 0} (part : Part) (Said : Members → X → Type 0) (right : (ms : Members) (x : X) → Said ms x → AllByRecursion (IsRight part ms) (order part))
+pub table_says : {X : Type 0} (part : Part) (Said : Members → X → Type 0) (right : (ms : Members) (x : X) → Said ms x → AllByRecursion (IsRightTable part ms) (order part))
     → (at : Option Data) (x : X) (i : Option ℕ) (k : Option Key) → IsTableAt Said at x → IsBadTable part at i k → ⊥
 table_says part Said right at x None None h b = b h.ms h.is_table
 table_says part Said right at x None (Some k) h b =
     let same : b.0 ≡ h.ms = cc (b.1, h.is_table) in
-    none_first (IsRight part h.ms) (order part) k (right h.ms x h.says) (subst (λ (ms : Members). IsBadKey part ms k) same b.2)
+    none_first (IsRightTable part h.ms) (order part) k (right h.ms x h.says) (subst (λ (ms : Members). IsBadKey part ms k) same b.2)
 table_says part Said right at x (Some i) k h b = b

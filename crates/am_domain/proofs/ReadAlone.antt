@@ -4,7 +4,7 @@ use Rattle.std.proofs.lemmas.Option.{same_Some}
 use Rattle.toml.specs.Data.{Members}
 use Rattle.am_domain.specs.Values.{FlowValue}
 use Rattle.am_domain.specs.Fields.{FieldsValue, Says, IsBadField}
-use Rattle.am_domain.specs.Rules.{IsFirstBroken}
+use Rattle.am_domain.specs.Rules.{some_block, few_cells, IsFirstBroken}
 use Rattle.am_domain.specs.Domains.{DomainValue, IsMadeOf, IsLawful, IsDocument, IsNoDocument, IsBroken, IsDomainOf, IsDomainRefusal, TellsRefusal, IsAnswer}
 use Rattle.am_domain.specs.declared.error.Part.{Part}
 use Rattle.am_domain.specs.declared.error.Key.{Key}
@@ -12,14 +12,15 @@ use Rattle.am_domain.specs.declared.error.DomainError.{DomainError}
 use Rattle.am_domain.specs.declared.error.DomainError.TheVariants.{NotToml, BadField, Memory}
 use Rattle.am_domain.proofs.DomainLemmas.{lawful}
 use Rattle.am_domain.proofs.FieldAlone.{field_says, field_alone}
+use Rattle.am_domain.proofs.RuleLemmas.{kept-rule}
 use Rattle.am_domain.proofs.RuleAlone.{broken_alone, made_not, made_alone}
 use Rattle.am_domain.proofs.SaysAlone.{OnePrefix, says_same}
 
 -- the domain that a table says is lawful: the reported blocks of its rules are its own, since the file lays out one way
 made_lawful : (ms : Members) (f : FieldsValue) (d : DomainValue) → Says ms f → IsMadeOf f d → IsLawful d
 made_lawful ms f d says made =
-    let blocks = made.kept.1.1.1.1.1.1.1.1.1.1.1.0 in
-    let cells = made.kept.1.1.1.1.1.1.1.1.1.1.1.1.0 in
+    let blocks = kept-rule f made.kept some_block in
+    let cells = kept-rule f made.kept few_cells in
     let some : d.first < d.end =
     let e : DomainValue = record { times = d.times; kind = d.kind; workers = d.workers; flows = d.flows; nodes = d.nodes; links = blocks.0; first = blocks.1; end = blocks.2 } in
     let also : IsMadeOf f e = record { times = made.times; kind = made.kind; workers = made.workers; flows = made.flows; nodes = made.nodes; laid_out = blocks.3; kept = made.kept } in

@@ -1,5 +1,5 @@
 -- The first broken rule is one alone, and no rule is broken where all are kept.
-use Rattle.std.proofs.Common.{◌≡◌, ℕ, ◌-◌, ◌*◌, ◌<◌, ◌≤◌, ◌↔◌, List, [], ◌∷◌, length, slice_get, slice_index_or, Some, subst, sym, ap, ◌∙◌, refl, inl, inr, arith}
+use Rattle.std.proofs.Common.{◌≡◌, ℕ, ◌-◌, ◌*◌, ◌<◌, ◌≤◌, ◌↔◌, List, [], ◌∷◌, length, slice_index_or, subst, sym, ap, ◌∙◌, refl, inl, inr, arith}
 use Rattle.std.proofs.lemmas.Bool.{cases_order}
 use Rattle.std.specs.List.{AllZip}
 use Rattle.am_addr.specs.Bits.{Span}
@@ -11,7 +11,7 @@ use Rattle.am_domain.specs.Values.{FlowValue, NodeValue, LinkValue}
 use Rattle.am_domain.specs.Lists.{IsFirstPlace, IsFirstPair}
 use Rattle.am_domain.specs.Fields.{FieldsValue}
 use Rattle.am_domain.specs.Network.{IsNumberOf, IsNoNode, IsNode, IsBetween, IsLoose, Joins, SameEnds, HasLink, IsLone, StartsBelow, EndsBelow, IsFirstBlock, IsEndBlock}
-use Rattle.am_domain.specs.Rules.{Rule, timed, few_nodes, few_links, few_flows, flow_names_differ, flow_ids_differ, node_names_differ, ends_are_nodes, ends_differ, links_differ, nodes_have_links, some_block, few_cells, rules_in_order, AreDistinct, Each, EndsDiffer, SameFlowName, SameFlowId, SameNodeName, IsLaidOut, Keeps, Tells, rank, IsFirstBroken}
+use Rattle.am_domain.specs.Rules.{few_nodes, few_flows, flow_names_differ, node_names_differ, place, AreDistinct, Each, EndsDiffer, SameFlowName, SameFlowId, SameNodeName, IsLaidOut, Keeps, Tells, rule_of, IsFirstBroken}
 use Rattle.am_domain.specs.Domains.{DomainValue, IsMadeOf}
 use Rattle.am_domain.specs.declared.link.Edge.{Edge}
 use Rattle.am_domain.specs.declared.error.Key.{Key}
@@ -22,7 +22,7 @@ use Rattle.am_domain.specs.declared.error.Repeated.{Repeated}
 use Rattle.am_domain.specs.declared.error.Repeated.TheVariants.{FlowName, FlowId, NodeName}
 use Rattle.am_domain.specs.declared.error.DomainError.{DomainError}
 use Rattle.am_domain.specs.declared.error.DomainError.TheVariants.{NotToml, BadField, Timing, TooMany, Twice, UnknownNode, SelfLink, LinkTwice, LoneNode, NoBlock, TooManyCells, Memory}
-use Rattle.am_domain.proofs.FieldAlone.{one_of}
+use Rattle.am_domain.proofs.RuleLemmas.{kept-rule, kept-before}
 
 -- a flow, a node and a link, for a place past the end of a list
 any_flow : FlowValue
@@ -183,52 +183,6 @@ fault_alone t (GuardTooWide w m) _ a b = absurd (omega arith)
 
 -- ---- the rules
 
--- the rule that an answer tells
-abbrev rule_of : DomainError → Rule
-rule_of (Timing fault) = timed
-rule_of (TooMany part.Node count) = few_nodes
-rule_of (TooMany part.Link count) = few_links
-rule_of (TooMany _ count) = few_flows
-rule_of (Twice FlowName first second) = flow_names_differ
-rule_of (Twice FlowId first second) = flow_ids_differ
-rule_of (Twice NodeName first second) = node_names_differ
-rule_of (UnknownNode link end) = ends_are_nodes
-rule_of (SelfLink link) = ends_differ
-rule_of (LinkTwice first second) = links_differ
-rule_of (LoneNode node) = nodes_have_links
-rule_of (NoBlock first end) = some_block
-rule_of _ = few_cells
-
-rule_at : (e : DomainError) → slice_get rules_in_order (rank e) ≡ Some (rule_of e)
-rule_at (Timing fault) = refl
-rule_at (TooMany part.Node count) = refl
-rule_at (TooMany part.Link count) = refl
-rule_at (TooMany _ count) = refl
-rule_at (Twice FlowName first second) = refl
-rule_at (Twice FlowId first second) = refl
-rule_at (Twice NodeName first second) = refl
-rule_at (UnknownNode link end) = refl
-rule_at (SelfLink link) = refl
-rule_at (LinkTwice first second) = refl
-rule_at (LoneNode node) = refl
-rule_at (NoBlock first end) = refl
-rule_at _ = refl
-
-rank_within : (e : DomainError) → rank e < 13
-rank_within (Timing fault) = omega arith
-rank_within (TooMany part.Node count) = omega arith
-rank_within (TooMany part.Link count) = omega arith
-rank_within (TooMany _ count) = omega arith
-rank_within (Twice FlowName first second) = omega arith
-rank_within (Twice FlowId first second) = omega arith
-rank_within (Twice NodeName first second) = omega arith
-rank_within (UnknownNode link end) = omega arith
-rank_within (SelfLink link) = omega arith
-rank_within (LinkTwice first second) = omega arith
-rank_within (LoneNode node) = omega arith
-rank_within (NoBlock first end) = omega arith
-rank_within _ = omega arith
-
 -- a rule that is kept is not broken
 kept_not : (f : FieldsValue) (e : DomainError) → Keeps f (rule_of e) → Tells f e → ⊥
 kept_not f (Timing fault) h a = fault_not f.times fault h a
@@ -252,86 +206,86 @@ kept_not f (TooManyCells count) h a =
     omega (arith, h.4, a.4, a.5, cells)
 kept_not f _ h a = a
 
--- where the answers on counts and on repeats stand
-rank_many : (p : Part) (n : ℕ) → (1 ≤ rank (TooMany p n)) × (rank (TooMany p n) ≤ 3)
-rank_many part.Node n = (omega arith, omega arith)
-rank_many part.Link n = (omega arith, omega arith)
-rank_many _ n = (omega arith, omega arith)
+-- where the rules on counts and on repeats stand
+many-between : (p : Part) (n : ℕ) → (place few_nodes ≤ place (rule_of (TooMany p n))) × (place (rule_of (TooMany p n)) ≤ place few_flows)
+many-between part.Node n = (omega arith, omega arith)
+many-between part.Link n = (omega arith, omega arith)
+many-between _ n = (omega arith, omega arith)
 
-rank_twice : (w : Repeated) (i j : ℕ) → (4 ≤ rank (Twice w i j)) × (rank (Twice w i j) ≤ 6)
-rank_twice FlowName i j = (omega arith, omega arith)
-rank_twice FlowId i j = (omega arith, omega arith)
-rank_twice NodeName i j = (omega arith, omega arith)
+twice-between : (w : Repeated) (i j : ℕ) → (place flow_names_differ ≤ place (rule_of (Twice w i j))) × (place (rule_of (Twice w i j)) ≤ place node_names_differ)
+twice-between FlowName i j = (omega arith, omega arith)
+twice-between FlowId i j = (omega arith, omega arith)
+twice-between NodeName i j = (omega arith, omega arith)
 
 -- what is told of a rule is one alone
-told_alone : (f : FieldsValue) (e e' : DomainError) → rank e ≡ rank e' → Tells f e → Tells f e' → e ≡ e'
+told_alone : (f : FieldsValue) (e e' : DomainError) → place (rule_of e) ≡ place (rule_of e') → Tells f e → Tells f e' → e ≡ e'
 told_alone f (Timing x) (Timing y) r a b = ap Timing (fault_alone f.times x y a b)
-told_alone f (Timing x) (TooMany p n) r a b = absurd (omega (arith, r, rank_many p n))
-told_alone f (Timing x) (Twice w u v) r a b = absurd (omega (arith, r, rank_twice w u v))
+told_alone f (Timing x) (TooMany p n) r a b = absurd (omega (arith, r, many-between p n))
+told_alone f (Timing x) (Twice w u v) r a b = absurd (omega (arith, r, twice-between w u v))
 told_alone f (Timing x) _ r a b = absurd (omega (arith, r))
 told_alone f (TooMany part.Node x) (TooMany part.Node y) r a b = ap (TooMany part.Node) (a.1 ∙ sym b.1)
 told_alone f (TooMany part.Node x) (TooMany part.Link y) r a b = absurd (omega (arith, r))
 told_alone f (TooMany part.Node x) (TooMany part.Flow y) r a b = absurd (omega (arith, r))
 told_alone f (TooMany part.Node x) (TooMany _ y) r a b = absurd b
-told_alone f (TooMany part.Node x) (Twice w i j) r a b = absurd (omega (arith, r, rank_twice w i j))
+told_alone f (TooMany part.Node x) (Twice w i j) r a b = absurd (omega (arith, r, twice-between w i j))
 told_alone f (TooMany part.Node x) _ r a b = absurd (omega (arith, r))
 told_alone f (TooMany part.Link x) (TooMany part.Link y) r a b = ap (TooMany part.Link) (a.1 ∙ sym b.1)
 told_alone f (TooMany part.Link x) (TooMany part.Node y) r a b = absurd (omega (arith, r))
 told_alone f (TooMany part.Link x) (TooMany part.Flow y) r a b = absurd (omega (arith, r))
 told_alone f (TooMany part.Link x) (TooMany _ y) r a b = absurd b
-told_alone f (TooMany part.Link x) (Twice w i j) r a b = absurd (omega (arith, r, rank_twice w i j))
+told_alone f (TooMany part.Link x) (Twice w i j) r a b = absurd (omega (arith, r, twice-between w i j))
 told_alone f (TooMany part.Link x) _ r a b = absurd (omega (arith, r))
 told_alone f (TooMany part.Flow x) (TooMany part.Flow y) r a b = ap (TooMany part.Flow) (a.1 ∙ sym b.1)
 told_alone f (TooMany part.Flow x) (TooMany part.Node y) r a b = absurd (omega (arith, r))
 told_alone f (TooMany part.Flow x) (TooMany part.Link y) r a b = absurd (omega (arith, r))
 told_alone f (TooMany part.Flow x) (TooMany _ y) r a b = absurd b
-told_alone f (TooMany part.Flow x) (Twice w i j) r a b = absurd (omega (arith, r, rank_twice w i j))
+told_alone f (TooMany part.Flow x) (Twice w i j) r a b = absurd (omega (arith, r, twice-between w i j))
 told_alone f (TooMany part.Flow x) _ r a b = absurd (omega (arith, r))
 told_alone f (TooMany _ x) e' r a b = absurd a
 told_alone f (Twice FlowName i j) (Twice FlowName i' j') r a b =
     let p = pair_alone SameFlowName (λ x y z p q. p ∙ sym q) any_flow f.flows i j i' j' a b in rw (p.0, p.1) refl
 told_alone f (Twice FlowName i j) (Twice FlowId i' j') r a b = absurd (omega (arith, r))
 told_alone f (Twice FlowName i j) (Twice NodeName i' j') r a b = absurd (omega (arith, r))
-told_alone f (Twice FlowName i j) (TooMany p n) r a b = absurd (omega (arith, r, rank_many p n))
+told_alone f (Twice FlowName i j) (TooMany p n) r a b = absurd (omega (arith, r, many-between p n))
 told_alone f (Twice FlowName i j) _ r a b = absurd (omega (arith, r))
 told_alone f (Twice FlowId i j) (Twice FlowId i' j') r a b =
     let p = pair_alone SameFlowId (λ x y z p q. p ∙ sym q) any_flow f.flows i j i' j' a b in rw (p.0, p.1) refl
 told_alone f (Twice FlowId i j) (Twice FlowName i' j') r a b = absurd (omega (arith, r))
 told_alone f (Twice FlowId i j) (Twice NodeName i' j') r a b = absurd (omega (arith, r))
-told_alone f (Twice FlowId i j) (TooMany p n) r a b = absurd (omega (arith, r, rank_many p n))
+told_alone f (Twice FlowId i j) (TooMany p n) r a b = absurd (omega (arith, r, many-between p n))
 told_alone f (Twice FlowId i j) _ r a b = absurd (omega (arith, r))
 told_alone f (Twice NodeName i j) (Twice NodeName i' j') r a b =
     let p = pair_alone SameNodeName (λ x y z p q. p ∙ sym q) any_node f.nodes i j i' j' a b in rw (p.0, p.1) refl
 told_alone f (Twice NodeName i j) (Twice FlowName i' j') r a b = absurd (omega (arith, r))
 told_alone f (Twice NodeName i j) (Twice FlowId i' j') r a b = absurd (omega (arith, r))
-told_alone f (Twice NodeName i j) (TooMany p n) r a b = absurd (omega (arith, r, rank_many p n))
+told_alone f (Twice NodeName i j) (TooMany p n) r a b = absurd (omega (arith, r, many-between p n))
 told_alone f (Twice NodeName i j) _ r a b = absurd (omega (arith, r))
 told_alone f (UnknownNode i x) (UnknownNode i' y) r a b =
     let p = place_alone (IsBetween f.nodes) (IsLoose f.nodes x) (IsLoose f.nodes y) (loose_not f.nodes x) (loose_not f.nodes y) any_link f.links i i' a b in
     let e = end_alone f.nodes x y (slice_index_or f.links i' any_link) (subst (λ (n : ℕ). IsLoose f.nodes x (slice_index_or f.links n any_link)) p (a.here any_link)) (b.here any_link) in
     rw (p, e) refl
-told_alone f (UnknownNode i x) (TooMany p n) r a b = absurd (omega (arith, r, rank_many p n))
-told_alone f (UnknownNode i x) (Twice w u v) r a b = absurd (omega (arith, r, rank_twice w u v))
+told_alone f (UnknownNode i x) (TooMany p n) r a b = absurd (omega (arith, r, many-between p n))
+told_alone f (UnknownNode i x) (Twice w u v) r a b = absurd (omega (arith, r, twice-between w u v))
 told_alone f (UnknownNode i x) _ r a b = absurd (omega (arith, r))
 told_alone f (SelfLink i) (SelfLink i') r a b =
     ap SelfLink (place_alone EndsDiffer (λ l. l.from ≡ l.to) (λ l. l.from ≡ l.to) (λ l not e. not e) (λ l not e. not e) any_link f.links i i' a b)
-told_alone f (SelfLink i) (TooMany p n) r a b = absurd (omega (arith, r, rank_many p n))
-told_alone f (SelfLink i) (Twice w u v) r a b = absurd (omega (arith, r, rank_twice w u v))
+told_alone f (SelfLink i) (TooMany p n) r a b = absurd (omega (arith, r, many-between p n))
+told_alone f (SelfLink i) (Twice w u v) r a b = absurd (omega (arith, r, twice-between w u v))
 told_alone f (SelfLink i) _ r a b = absurd (omega (arith, r))
 told_alone f (LinkTwice i j) (LinkTwice i' j') r a b =
     let p = pair_alone SameEnds ends_join any_link f.links i j i' j' a b in rw (p.0, p.1) refl
-told_alone f (LinkTwice i j) (TooMany p n) r a b = absurd (omega (arith, r, rank_many p n))
-told_alone f (LinkTwice i j) (Twice w u v) r a b = absurd (omega (arith, r, rank_twice w u v))
+told_alone f (LinkTwice i j) (TooMany p n) r a b = absurd (omega (arith, r, many-between p n))
+told_alone f (LinkTwice i j) (Twice w u v) r a b = absurd (omega (arith, r, twice-between w u v))
 told_alone f (LinkTwice i j) _ r a b = absurd (omega (arith, r))
 told_alone f (LoneNode i) (LoneNode i') r a b =
     ap LoneNode (place_alone (HasLink f.links) (IsLone f.links) (IsLone f.links) (lone_not f.links) (lone_not f.links) any_node f.nodes i i' a b)
-told_alone f (LoneNode i) (TooMany p n) r a b = absurd (omega (arith, r, rank_many p n))
-told_alone f (LoneNode i) (Twice w u v) r a b = absurd (omega (arith, r, rank_twice w u v))
+told_alone f (LoneNode i) (TooMany p n) r a b = absurd (omega (arith, r, many-between p n))
+told_alone f (LoneNode i) (Twice w u v) r a b = absurd (omega (arith, r, twice-between w u v))
 told_alone f (LoneNode i) _ r a b = absurd (omega (arith, r))
 told_alone f (NoBlock x y) (NoBlock x' y') r a b =
     let p = layout_alone f a.0 b.0 x y x' y' a.1 b.1 in rw (p.1, p.2) refl
-told_alone f (NoBlock x y) (TooMany p n) r a b = absurd (omega (arith, r, rank_many p n))
-told_alone f (NoBlock x y) (Twice w u v) r a b = absurd (omega (arith, r, rank_twice w u v))
+told_alone f (NoBlock x y) (TooMany p n) r a b = absurd (omega (arith, r, many-between p n))
+told_alone f (NoBlock x y) (Twice w u v) r a b = absurd (omega (arith, r, twice-between w u v))
 told_alone f (NoBlock x y) _ r a b = absurd (omega (arith, r))
 told_alone f (TooManyCells n) (TooManyCells n') r a b =
     let p = layout_alone f a.0 b.0 a.1 a.2 b.1 b.2 a.3 b.3 in
@@ -343,24 +297,24 @@ told_alone f (TooManyCells n) (TooMany part.Node y) r a b = absurd (omega (arith
 told_alone f (TooManyCells n) (TooMany part.Link y) r a b = absurd (omega (arith, r))
 told_alone f (TooManyCells n) (TooMany part.Flow y) r a b = absurd (omega (arith, r))
 told_alone f (TooManyCells n) (TooMany _ y) r a b = absurd b
-told_alone f (TooManyCells n) (Twice w i j) r a b = absurd (omega (arith, r, rank_twice w i j))
+told_alone f (TooManyCells n) (Twice w i j) r a b = absurd (omega (arith, r, twice-between w i j))
 told_alone f (TooManyCells n) _ r a b = absurd (omega (arith, r))
 told_alone f _ e' r a b = absurd a
 
 -- the first broken rule is one alone
 pub broken_alone : (f : FieldsValue) (e e' : DomainError) → IsFirstBroken f e → IsFirstBroken f e' → e ≡ e'
 broken_alone f e e' a b =
-    elim (cases_order (rank e) (rank e')) [
+    elim (cases_order (place (rule_of e)) (place (rule_of e'))) [
       | inl same ↦ told_alone f e e' same a.told b.told
       | inr h ↦ elim h [
-        | inl before ↦ absurd (kept_not f e (one_of (Keeps f) rules_in_order (rank e') (rank e) (rule_of e) b.kept before (rule_at e)) a.told)
-        | inr behind ↦ absurd (kept_not f e' (one_of (Keeps f) rules_in_order (rank e) (rank e') (rule_of e') a.kept behind (rule_at e')) b.told)
+        | inl before ↦ absurd (kept_not f e (kept-before f (rule_of e') b.kept (rule_of e) before) a.told)
+        | inr behind ↦ absurd (kept_not f e' (kept-before f (rule_of e) a.kept (rule_of e') behind) b.told)
       ]
     ]
 
 -- a file of which a domain is made breaks no rule
 pub made_not : (f : FieldsValue) (d : DomainValue) (e : DomainError) → IsMadeOf f d → IsFirstBroken f e → ⊥
-made_not f d e made a = kept_not f e (one_of (Keeps f) rules_in_order 13 (rank e) (rule_of e) made.kept (rank_within e) (rule_at e)) a.told
+made_not f d e made a = kept_not f e (kept-rule f made.kept (rule_of e)) a.told
 
 -- the domain that is made of a file is one alone
 pub made_alone : (f : FieldsValue) (d d' : DomainValue) → IsMadeOf f d → IsMadeOf f d' → d ≡ d'

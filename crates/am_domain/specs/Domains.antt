@@ -1,14 +1,17 @@
 -- The domain of a file's bytes, or why they have none.
-use Rattle.std.specs.Prelude.{◌≡◌, ◌≢◌, ℕ, ◌-◌, ◌*◌, ◌^◌, ◌<◌, ◌≤◌, ◌⊎◌, List, length, slice_index_or, IsUtf8, Some, Result, Err, ◌↔◌}
+use Rattle.std.specs.Prelude.{◌≡◌, ◌≢◌, ℕ, ◌-◌, ◌*◌, ◌<◌, ◌≤◌, ◌⊎◌, List, length, slice_index_or, IsUtf8, Some, Result, Err, ◌↔◌}
 use Rattle.toml.specs.Data.{Members}
 use Rattle.toml.specs.Parse.{parse_document}
 use Rattle.am_clock.specs.Times.{Times, IsTiming}
+use Rattle.am_clock.specs.declared.timing.TheConstants.{MAX_TIME}
 use Rattle.am_ip6.specs.declared.marks.Place.{Place as Kind}
 use Rattle.am_domain.specs.Values.{FlowValue, NodeValue}
 use Rattle.am_domain.specs.Texts.{IsName, IsFileName, IsReading}
+use Rattle.am_domain.specs.declared.table.TheConstants.{MAX_FLOW}
 use Rattle.am_domain.specs.Network.{shift_at, IsFirstBlock, IsEndBlock, IsReported, AreWindowsWithin}
+use Rattle.am_domain.specs.declared.judge.TheConstants.{MAX_NODES, MAX_LINKS, MAX_FLOWS, MAX_CELLS}
 use Rattle.am_domain.specs.Fields.{FieldsValue, Says, IsBadField}
-use Rattle.am_domain.specs.Rules.{Each, AreDistinct, SameFlowName, SameFlowId, SameNodeName, KeepsFirst, IsLaidOut, IsFirstBroken}
+use Rattle.am_domain.specs.Rules.{Each, AreDistinct, SameFlowName, SameFlowId, SameNodeName, KeepsAll, IsLaidOut, IsFirstBroken}
 use Rattle.am_domain.specs.declared.link.Edge.{Edge}
 use Rattle.am_domain.specs.declared.error.DomainError.{DomainError}
 use Rattle.am_domain.specs.declared.error.DomainError.TheVariants.{NotToml, BadField, Memory}
@@ -52,12 +55,12 @@ pub record IsLawful (d : DomainValue) : Type 0 where
   pub few_workers : d.workers ≤ 64
   -- there is a flow, and there are no more flows, nodes and links than there may be
   pub some_flow : 1 ≤ length d.flows
-  pub few_flows : length d.flows ≤ 1024
-  pub few_nodes : length d.nodes ≤ 128
-  pub few_links : length d.links ≤ 1024
+  pub few_flows : length d.flows ≤ MAX_FLOWS
+  pub few_nodes : length d.nodes ≤ MAX_NODES
+  pub few_links : length d.links ≤ MAX_LINKS
   -- names are names, files' names are files' names, and the numbers of flows have 20 bits
   pub flow_names : Each (λ f. IsName f.name) d.flows
-  pub flow_ids : Each (λ f. f.id ≤ 1048575) d.flows
+  pub flow_ids : Each (λ f. f.id ≤ MAX_FLOW) d.flows
   pub node_names : Each (λ n. IsName n.name) d.nodes
   pub captures : Each (λ n. IsFileName n.capture) d.nodes
   -- each capture's span begins and ends at readings, which are at most 2^32 seconds
@@ -74,12 +77,12 @@ pub record IsLawful (d : DomainValue) : Type 0 where
   pub links_differ : AreDistinct SameNodes d.links
   pub nodes_linked : (node : ℕ) → node < length d.nodes → IsLinked d.links node
   -- no node sees the blocks later than by 2^40 nanoseconds
-  pub shifts : (k : ℕ) → k < length d.nodes → shift_at d.times d.nodes d.links k ≤ 2 ^ 40
+  pub shifts : (k : ℕ) → k < length d.nodes → shift_at d.times d.nodes d.links k ≤ MAX_TIME
   -- the reported blocks are those that are covered at every node; there is one, and they are not too many for
   -- the flows
   pub reported : (block : ℕ) → Reports d block ↔ IsReported d.times d.nodes d.links block
   pub some_block : d.first < d.end
-  pub few_cells : length d.flows * (d.end - d.first) ≤ 32768
+  pub few_cells : length d.flows * (d.end - d.first) ≤ MAX_CELLS
   pub starts : IsFirstBlock d.times d.nodes d.links d.first
   pub ends : IsEndBlock d.times d.nodes d.links d.end
   -- the window of a reported block lies within the span of the capture, at every node, and so ends at most at
@@ -94,7 +97,7 @@ pub record IsMadeOf (f : FieldsValue) (d : DomainValue) : Type 0 where
   pub flows : d.flows ≡ f.flows
   pub nodes : d.nodes ≡ f.nodes
   pub laid_out : IsLaidOut f d.links d.first d.end
-  pub kept : KeepsFirst f 13
+  pub kept : KeepsAll f
 
 -- the bytes are UTF-8, and their text is the TOML document of this table
 pub record IsDocument (bytes : List ℕ) (ms : Members) : Type 0 where

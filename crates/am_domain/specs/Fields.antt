@@ -6,7 +6,7 @@ use Rattle.am_clock.specs.Times.{Times}
 use Rattle.am_ip6.specs.declared.marks.Place.{Place as Kind}
 use Rattle.am_domain.specs.Values.{FlowValue, NodeValue, LinkValue}
 use Rattle.am_domain.specs.Texts.{IsNumberAt, IsPlaceAt, IsWorkersAt}
-use Rattle.am_domain.specs.Keys.{part_spelling, spellings, has_other, IsRight}
+use Rattle.am_domain.specs.Keys.{part_spelling, spellings, has_other, IsRightTable}
 use Rattle.am_domain.specs.Tables.{at_key, SaysFlow, SaysNode, SaysLink, IsBadKey}
 use Rattle.am_domain.specs.Entries.{AreEntries, IsBadArray}
 use Rattle.am_domain.specs.declared.error.Part.{Part}
@@ -39,13 +39,13 @@ pub record SaysTimes (ms : Members) (times : Times) : Type 0 where
   pub skew : IsNumberAt (at_key ms SkewNs) times.skew
   pub delay_min : IsNumberAt (at_key ms DelayMinNs) times.delay_min
   pub delay_max : IsNumberAt (at_key ms DelayMaxNs) times.delay_max
-  pub known : IsRight Timing ms Unknown
+  pub known : IsRightTable Timing ms Unknown
 
 -- the table says this kind of header and this number of workers
 pub record SaysMarking (ms : Members) (marking : MarkingValue) : Type 0 where
   pub place : IsPlaceAt (at_key ms Place) marking.kind
   pub workers : IsWorkersAt (at_key ms Workers) marking.workers
-  pub known : IsRight Marking ms Unknown
+  pub known : IsRightTable Marking ms Unknown
 
 -- a table stands there, which says this
 pub record IsTableAt {X : Type 0} (Says : Members → X → Type 0) (at : Option Data) (x : X)

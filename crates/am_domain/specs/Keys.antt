@@ -77,6 +77,6 @@ IsRightAt To at = (text : List ℕ) × IsNameAt at text
 IsRightAt Unknown at = Unit {0}
 
 -- the table of this part is right at the key: the key's value is, and for `Unknown`, no key has another spelling
-abbrev pub IsRight : Part → Members → Key → Type 0
-IsRight part ms Unknown = has_other (spellings part) ms ≡ false
-IsRight part ms key = IsRightAt key (get_member (spelling key) ms)
+abbrev pub IsRightTable : Part → Members → Key → Type 0
+IsRightTable part ms Unknown = has_other (spellings part) ms ≡ false
+IsRightTable part ms key = IsRightAt key (get_member (spelling key) ms)

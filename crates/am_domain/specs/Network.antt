@@ -76,8 +76,8 @@ StartsAt times nodes edges k d block =
     StartsIn times (slice_index_or nodes k d).from (shift_at times nodes edges k) block
 
 -- at the node of this number the block's window ends within the span of the capture
-abbrev pub EndsAt : Times → List NodeValue → List Edge → ℕ → NodeValue → ℕ → Type 0
-EndsAt times nodes edges k d block =
+abbrev pub WindowEndsAt : Times → List NodeValue → List Edge → ℕ → NodeValue → ℕ → Type 0
+WindowEndsAt times nodes edges k d block =
     EndsIn times (slice_index_or nodes k d).until (shift_at times nodes edges k) block
 
 -- at each of the first so many nodes, the block's window begins within the span of the capture
@@ -88,7 +88,7 @@ StartsBelow times nodes edges count block =
 -- at each of the first so many nodes, the block's window ends within the span of the capture
 abbrev pub EndsBelow : Times → List NodeValue → List Edge → ℕ → ℕ → Type 0
 EndsBelow times nodes edges count block =
-    (k : ℕ) (d : NodeValue) → k < count → EndsAt times nodes edges k d block
+    (k : ℕ) (d : NodeValue) → k < count → WindowEndsAt times nodes edges k d block
 
 -- the blocks from this one on begin within the span of each capture, and no others
 abbrev pub IsFirstBlock : Times → List NodeValue → List Edge → ℕ → Type 0

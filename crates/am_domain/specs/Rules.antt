@@ -7,6 +7,7 @@ use Rattle.am_domain.specs.Values.{FlowValue, NodeValue, LinkValue}
 use Rattle.am_domain.specs.Fields.{FieldsValue}
 use Rattle.am_domain.specs.Lists.{AllBelow, IsFirstPlace, DistinctBelow, IsFirstPair}
 use Rattle.am_domain.specs.Network.{IsBetween, IsLoose, Joins, SameEnds, HasLink, IsLone, IsFirstBlock, IsEndBlock}
+use Rattle.am_domain.specs.declared.judge.TheConstants.{MAX_NODES, MAX_LINKS, MAX_FLOWS, MAX_CELLS}
 use Rattle.am_domain.specs.declared.link.Edge.{Edge}
 use Rattle.am_domain.specs.declared.error.Part.TheVariants as part
 use Rattle.am_domain.specs.declared.error.Repeated.TheVariants.{FlowName, FlowId, NodeName}
@@ -70,9 +71,9 @@ pub record IsLaidOut (f : FieldsValue) (edges : List Edge) (first end : ℕ) : T
 -- the file keeps the rule
 abbrev pub Keeps : FieldsValue → Rule → Type 0
 Keeps f timed = IsTiming f.times
-Keeps f few_nodes = length f.nodes ≤ 128
-Keeps f few_links = length f.links ≤ 1024
-Keeps f few_flows = length f.flows ≤ 1024
+Keeps f few_nodes = length f.nodes ≤ MAX_NODES
+Keeps f few_links = length f.links ≤ MAX_LINKS
+Keeps f few_flows = length f.flows ≤ MAX_FLOWS
 Keeps f flow_names_differ = AreDistinct SameFlowName f.flows
 Keeps f flow_ids_differ = AreDistinct SameFlowId f.flows
 Keeps f node_names_differ = AreDistinct SameNodeName f.nodes
@@ -84,7 +85,7 @@ Keeps f some_block =
     (edges : List Edge) × (first : ℕ) × (end : ℕ) × IsLaidOut f edges first end × (first < end)
 Keeps f few_cells =
     (edges : List Edge) × (first : ℕ) × (end : ℕ) × IsLaidOut f edges first end
-    × (length f.flows * (end - first) ≤ 32768)
+    × (length f.flows * (end - first) ≤ MAX_CELLS)
 
 -- there are too many of a part, and so many
 abbrev pub IsTooMany : ℕ → ℕ → ℕ → Type 0
@@ -93,9 +94,9 @@ IsTooMany most found told = (most < found) × (told ≡ found)
 -- the file breaks the rule that the answer tells, and the answer has the first place where it does
 abbrev pub Tells : FieldsValue → DomainError → Type 0
 Tells f (Timing fault) = IsFirstFault f.times fault
-Tells f (TooMany part.Node count) = IsTooMany 128 (length f.nodes) count
-Tells f (TooMany part.Link count) = IsTooMany 1024 (length f.links) count
-Tells f (TooMany part.Flow count) = IsTooMany 1024 (length f.flows) count
+Tells f (TooMany part.Node count) = IsTooMany MAX_NODES (length f.nodes) count
+Tells f (TooMany part.Link count) = IsTooMany MAX_LINKS (length f.links) count
+Tells f (TooMany part.Flow count) = IsTooMany MAX_FLOWS (length f.flows) count
 Tells f (Twice FlowName first second) = IsFirstPair SameFlowName f.flows first second
 Tells f (Twice FlowId first second) = IsFirstPair SameFlowId f.flows first second
 Tells f (Twice NodeName first second) = IsFirstPair SameNodeName f.nodes first second
@@ -106,32 +107,52 @@ Tells f (LoneNode node) = IsFirstPlace (HasLink f.links) (IsLone f.links) f.node
 Tells f (NoBlock first end) = (edges : List Edge) × IsLaidOut f edges first end × (end ≤ first)
 Tells f (TooManyCells count) =
     (edges : List Edge) × (first : ℕ) × (end : ℕ) × IsLaidOut f edges first end
-    × (count ≡ length f.flows * (end - first)) × (32768 < count)
+    × (count ≡ length f.flows * (end - first)) × (MAX_CELLS < count)
 Tells f _ = ⊥
 
--- how many rules are looked at before the one that the answer tells
-abbrev pub rank : DomainError → ℕ
-rank (Timing fault) = 0
-rank (TooMany part.Node count) = 1
-rank (TooMany part.Link count) = 2
-rank (TooMany _ count) = 3
-rank (Twice FlowName first second) = 4
-rank (Twice FlowId first second) = 5
-rank (Twice NodeName first second) = 6
-rank (UnknownNode link end) = 7
-rank (SelfLink link) = 8
-rank (LinkTwice first second) = 9
-rank (LoneNode node) = 10
-rank (NoBlock first end) = 11
-rank _ = 12
+-- where the rule stands in the order
+abbrev pub place : Rule → ℕ
+place timed = 0
+place few_nodes = 1
+place few_links = 2
+place few_flows = 3
+place flow_names_differ = 4
+place flow_ids_differ = 5
+place node_names_differ = 6
+place ends_are_nodes = 7
+place ends_differ = 8
+place links_differ = 9
+place nodes_have_links = 10
+place some_block = 11
+place few_cells = 12
 
--- the file keeps so many rules, from the first on
-abbrev pub KeepsFirst : FieldsValue → ℕ → Type 0
-KeepsFirst f n = AllByRecursion (Keeps f) (take n rules_in_order)
+-- the rule whose breach the answer tells
+abbrev pub rule_of : DomainError → Rule
+rule_of (Timing fault) = timed
+rule_of (TooMany part.Node count) = few_nodes
+rule_of (TooMany part.Link count) = few_links
+rule_of (TooMany _ count) = few_flows
+rule_of (Twice FlowName first second) = flow_names_differ
+rule_of (Twice FlowId first second) = flow_ids_differ
+rule_of (Twice NodeName first second) = node_names_differ
+rule_of (UnknownNode link end) = ends_are_nodes
+rule_of (SelfLink link) = ends_differ
+rule_of (LinkTwice first second) = links_differ
+rule_of (LoneNode node) = nodes_have_links
+rule_of (NoBlock first end) = some_block
+rule_of _ = few_cells
+
+-- the file keeps all rules before this one
+abbrev pub KeepsBefore : FieldsValue → Rule → Type 0
+KeepsBefore f rule = AllByRecursion (Keeps f) (take (place rule) rules_in_order)
+
+-- the file keeps every rule
+abbrev pub KeepsAll : FieldsValue → Type 0
+KeepsAll f = AllByRecursion (Keeps f) rules_in_order
 
 -- the answer tells the first rule that the file breaks
 pub record IsFirstBroken (f : FieldsValue) (e : DomainError) : Type 0 where
-  pub kept : KeepsFirst f (rank e)
+  pub kept : KeepsBefore f (rule_of e)
   pub told : Tells f e
 
 -- what the judging of a file answers: the first broken rule, or want of memory
@@ -144,5 +165,5 @@ abbrev pub TellsBlocks : FieldsValue → List Edge → DomainError → Type 0
 TellsBlocks f edges (NoBlock first end) = IsLaidOut f edges first end × (end ≤ first)
 TellsBlocks f edges (TooManyCells count) =
     (first : ℕ) × (end : ℕ) × IsLaidOut f edges first end × (first < end)
-    × (count ≡ length f.flows * (end - first)) × (32768 < count)
+    × (count ≡ length f.flows * (end - first)) × (MAX_CELLS < count)
 TellsBlocks f edges _ = ⊥

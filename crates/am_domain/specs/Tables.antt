@@ -3,7 +3,7 @@ use Rattle.std.specs.Prelude.{List, [], ◌∷◌, ◌++◌, Option}
 use Rattle.toml.specs.Data.{Data, Members, get_member}
 use Rattle.am_domain.specs.Values.{FlowValue, NodeValue, LinkValue}
 use Rattle.am_domain.specs.Texts.{IsNameAt, IsFileNameAt, IsPrefixAt, IsIdAt, IsReadingAt}
-use Rattle.am_domain.specs.Keys.{spelling, keys_of, IsRight}
+use Rattle.am_domain.specs.Keys.{spelling, keys_of, IsRightTable}
 use Rattle.am_domain.specs.First.{IsFirstNot}
 use Rattle.am_domain.specs.declared.error.Part.{Part}
 use Rattle.am_domain.specs.declared.error.Part.TheVariants as part
@@ -20,7 +20,7 @@ pub record SaysFlow (ms : Members) (flow : FlowValue) : Type 0 where
   pub id : IsIdAt (at_key ms Id) flow.id
   pub source : IsPrefixAt (at_key ms Source) flow.source
   pub destination : IsPrefixAt (at_key ms Destination) flow.destination
-  pub known : IsRight part.Flow ms Unknown
+  pub known : IsRightTable part.Flow ms Unknown
 
 -- the table says this node
 pub record SaysNode (ms : Members) (node : NodeValue) : Type 0 where
@@ -28,13 +28,13 @@ pub record SaysNode (ms : Members) (node : NodeValue) : Type 0 where
   pub capture : IsFileNameAt (at_key ms Capture) node.capture
   pub from : IsReadingAt (at_key ms FromNs) node.from
   pub until : IsReadingAt (at_key ms UntilNs) node.until
-  pub known : IsRight part.Node ms Unknown
+  pub known : IsRightTable part.Node ms Unknown
 
 -- the table says this link
 pub record SaysLink (ms : Members) (link : LinkValue) : Type 0 where
   pub from : IsNameAt (at_key ms From) link.from
   pub to : IsNameAt (at_key ms To) link.to
-  pub known : IsRight part.Link ms Unknown
+  pub known : IsRightTable part.Link ms Unknown
 
 -- the keys of a part's tables as they are looked at: each in its place, then whether some key is unknown
 abbrev pub order : Part → List Key
@@ -42,4 +42,4 @@ order part = keys_of part ++ Unknown ∷ []
 
 -- this is the first bad key of a table of the part
 abbrev pub IsBadKey : Part → Members → Key → Type 0
-IsBadKey part ms key = IsFirstNot (IsRight part ms) (order part) key
+IsBadKey part ms key = IsFirstNot (IsRightTable part ms) (order part) key

@@ -7,6 +7,7 @@ use Rattle.toml.specs.Data.{Data, string, integer, get_member}
 use Rattle.toml.specs.View.{table_view}
 use Rattle.toml.specs.declared.value.Value.{Value}
 use Rattle.am_addr.specs.Bits.{Span, IsPrefixText}
+use Rattle.am_domain.specs.declared.table.TheConstants.{MAX_NAME, MAX_FILE_NAME, MAX_FLOW, MAX_READING}
 use Rattle.am_ip6.specs.declared.marks.Place.{Place}
 use Rattle.am_ip6.specs.declared.marks.Place.TheVariants.{HopByHop, Destination}
 
@@ -23,7 +24,7 @@ is_name_byte c =
 -- a name: 1 to 32 such characters
 pub record IsName (text : List ℕ) : Type 0 where
   pub some : 1 ≤ length text
-  pub most : length text ≤ 32
+  pub most : length text ≤ MAX_NAME
   pub plain : IsTrue (list_all is_name_byte text)
 
 -- a byte of a file's name: no control character, so none of U+0000 to U+001F, and not U+007F
@@ -33,7 +34,7 @@ is_file_byte c = nat_le 32 c && not (c == 127)
 -- a file's name: 1 to 255 bytes without control characters
 pub record IsFileName (text : List ℕ) : Type 0 where
   pub some : 1 ≤ length text
-  pub most : length text ≤ 255
+  pub most : length text ≤ MAX_FILE_NAME
   pub plain : IsTrue (list_all is_file_byte text)
 
 -- what stands at a key of a table
@@ -68,11 +69,11 @@ IsPrefixAt at span = (text : List ℕ) × (at ≡ Some (string text)) × IsPrefi
 
 -- the number of a flow stands there, which has 20 bits (RFC 9343, section 3)
 abbrev pub IsIdAt : Option Data → ℕ → Type 0
-IsIdAt at n = (at ≡ Some (integer (pos n))) × (n ≤ 1048575)
+IsIdAt at n = (at ≡ Some (integer (pos n))) × (n ≤ MAX_FLOW)
 
 -- a reading that a capture can have, in nanoseconds: at most 2^32 seconds
 abbrev pub IsReading : ℕ → Type 0
-IsReading n = n ≤ 4294967296000000000
+IsReading n = n ≤ MAX_READING
 
 -- a reading stands there
 abbrev pub IsReadingAt : Option Data → ℕ → Type 0

@@ -1,5 +1,5 @@
 -- What a flow, a node and a link of a domain file say.
-use Rattle.std.specs.Prelude.{ℕ, List}
+use Rattle.std.specs.Prelude.{ℕ, List, []}
 use Rattle.am_addr.specs.Bits.{Span}
 
 -- what a flow says: its name, the number in its marks, and the prefixes of its packets' addresses
@@ -16,6 +16,10 @@ pub record NodeValue : Type 0 where
   pub capture : List ℕ
   pub from : ℕ
   pub until : ℕ
+
+-- what stands for a node that the domain hasn't
+abbrev pub no_node : NodeValue
+no_node = record { name = []; capture = []; from = 0; until = 0 }
 
 -- what a link says: the names of the nodes that it leads from and to
 pub record LinkValue : Type 0 where

@@ -1,18 +1,18 @@
 //! Which blocks are reported: those that each node's capture covers (RFC 9341, section 5).
 
-ghost use Rattle.std.specs.Prelude.{◌≡◌, ℕ, ◌≤◌, ◌<◌, ◌^◌, ◌↔◌, List, length};
+ghost use Rattle.std.specs.Prelude.{◌≡◌, ℕ, ◌≤◌, ◌<◌, ◌↔◌, List, length};
 ghost use Rattle.am_domain.specs.Network as spec;
-ghost use Rattle.am_domain.specs.Network.{shift_at, StartsAt, EndsAt, IsFirstBlock, IsEndBlock};
+ghost use Rattle.am_domain.specs.Network.{shift_at, StartsAt, WindowEndsAt, IsFirstBlock, IsEndBlock};
 ghost use Rattle.am_domain.specs.Values.{NodeValue};
 
 use crate::link::Edge;
 use crate::node::Node;
-use am_clock::Timing;
+use am_clock::{MAX_TIME, Timing};
 
 /// The shift of a node, in nanoseconds: 0 where no link ends at it, else the least delay, whatever the nodes are.
 pub(crate) fn shift_of(timing: &Timing, edges: &[Edge], node: u32) -> u64
     ensures value { (nodes : List NodeValue) → result ≡ shift_at timing.now nodes edges.now node }
-    ensures most { result ≤ 2 ^ 40 }
+    ensures most { result ≤ MAX_TIME }
 {
     if has_links_in(edges, node) {
         return timing.delay_min();
@@ -51,7 +51,7 @@ fn covered_at(timing: &Timing, nodes: &[Node], edges: &[Edge], i: usize) -> (u64
     ensures first { (n : ℕ) (d : NodeValue)
         → (result.0 ≤ n) ↔ StartsAt timing.now nodes.now edges.now i d n }
     ensures end { (n : ℕ) (d : NodeValue)
-        → (n < result.1) ↔ EndsAt timing.now nodes.now edges.now i d n }
+        → (n < result.1) ↔ WindowEndsAt timing.now nodes.now edges.now i d n }
 {
     let node = &nodes[i];
     let shift = shift_of(timing, edges, i as u32);

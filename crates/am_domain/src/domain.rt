@@ -1,6 +1,6 @@
 //! Domains: what is measured where, and by which blocks.
 
-ghost use Rattle.std.specs.Prelude.{◌≡◌, ℕ, ◌≤◌, ◌<◌, ◌^◌, ◌↔◌, IsTrue, IfOk, IfErr, IfSome, IfNone, length, slice_index_or, Ok, Err, Some};
+ghost use Rattle.std.specs.Prelude.{◌≡◌, ℕ, ◌≤◌, ◌<◌, ◌↔◌, IsTrue, IfOk, IfErr, IfSome, IfNone, length, slice_index_or, Ok, Err, Some};
 ghost use Rattle.toml.specs.Data.{Members};
 ghost use Rattle.am_domain.specs.Domains.{DomainValue, IsLawful, IsMadeOf, IsDomainOf, IsDomainRefusal, TellsRefusal, IsAnswer};
 ghost use Rattle.am_domain.specs.Fields.{Says};
@@ -23,10 +23,13 @@ use crate::network::number_of;
 use crate::node::Node;
 use crate::numbers::{Numbered, numbers_of, place_of};
 use am_addr::Addr;
-use am_clock::Timing;
+use am_clock::{MAX_TIME, Timing};
 use am_ip6::Place;
 use std::alloc::Global;
 use std::marker::Model;
+
+/// The most bytes of a domain file: 1 MiB. A domain of the greatest size takes a quarter of that.
+pub const MAX_DOMAIN: u32 = 1_048_576;
 
 /// A domain: the flows that are measured, the network that they cross, and the blocks that are reported.
 #[derive(Drop)]
@@ -142,7 +145,7 @@ impl Domain {
     pub fn shift(&self, node: u32) -> u64
         requires { node < length self.now.nodes }
         ensures value { result ≡ shift_at self.now.times self.now.nodes self.now.links node }
-        ensures most { result ≤ 2 ^ 40 }
+        ensures most { result ≤ MAX_TIME }
     {
         shift_of(&self.timing, self.edges.as_slice(), node)
     }
@@ -246,12 +249,12 @@ fn domain_of(alloc: Global, fields: Fields) -> Result<Domain, DomainError>
 }
 
 /// The domain that the bytes of a domain file say, or their first refusal, in the order of `DomainError`: at
-/// most 1,048,576 bytes of a TOML document.
+/// most [`MAX_DOMAIN`] bytes of a TOML document.
 ///
 /// `NotToml` comes where the bytes aren't UTF-8, and where the crate `toml` refuses their text for another
 /// cause than memory.
 pub fn read_domain(alloc: Global, bytes: &[u8]) -> Result<Domain, DomainError>
-    requires { length bytes.now ≤ 1048576 }
+    requires { length bytes.now ≤ MAX_DOMAIN }
     ensures ok { IfOk result (λ d. IsDomainOf bytes.now d) }
     ensures err { IfErr result (λ e. TellsRefusal bytes.now e) }
     // Whatever domain the bytes say, and however they are refused, that is the answer, unless memory is short.
@@ -264,7 +267,7 @@ pub fn read_domain(alloc: Global, bytes: &[u8]) -> Result<Domain, DomainError>
 
 // The same.
 fn said_by(alloc: Global, bytes: &[u8]) -> Result<Domain, DomainError>
-    requires { length bytes.now ≤ 1048576 }
+    requires { length bytes.now ≤ MAX_DOMAIN }
     ensures ok { IfOk result (λ d. IsDomainOf bytes.now d) }
     ensures err { IfErr result (λ e. TellsRefusal bytes.now e) }
 {

@@ -3,7 +3,7 @@
 ghost use Rattle.std.specs.Prelude.{◌≡◌, ℕ, ◌-◌, ◌*◌, ◌<◌, ◌≤◌, List, length, OnOk, IfErr, IfOk};
 ghost use Rattle.std.specs.List.{AllZip};
 ghost use Rattle.am_domain.specs.Network.{Joins};
-ghost use Rattle.am_domain.specs.Rules.{KeepsFirst, TellsBroken, TellsBlocks, IsLaidOut};
+ghost use Rattle.am_domain.specs.Rules.{few_nodes, flow_names_differ, ends_are_nodes, ends_differ, some_block, KeepsBefore, TellsBroken, TellsBlocks, IsLaidOut};
 ghost use Rattle.am_domain.specs.Sizes.{CountsFit};
 
 use crate::blocks::reported;
@@ -17,40 +17,42 @@ use crate::repeats::{FlowIds, FlowNames, LinkEnds, NodeNames, repeated};
 use am_clock::Timing;
 use std::alloc::Global;
 
-// A network has at most so many nodes, links and flows: a table of counters by node, flow and block stays
-// within memory, and a check of each against each other stays quick.
-const MOST_NODES: usize = 128;
+/// The most nodes of a network. With so many nodes, links and flows a table of counters by node, flow and block stays
+/// within memory, and a check of each against each other stays quick.
+pub const MAX_NODES: usize = 128;
 
-const MOST_LINKS: usize = 1024;
+/// The most links of a network.
+pub const MAX_LINKS: usize = 1024;
 
-const MOST_FLOWS: usize = 1024;
+/// The most flows of a domain.
+pub const MAX_FLOWS: usize = 1024;
 
-// A cell is kept for each flow and reported block, at each node.
-const MOST_CELLS: u128 = 32_768;
+/// The most pairs of a flow and a reported block: a cell is kept for each of them, at each node.
+pub const MAX_CELLS: u128 = 32_768;
 
 /// Whether there are too many nodes, links or flows.
 pub(crate) fn check_counts(fields: &Fields) -> Result<(), DomainError>
-    requires kept { KeepsFirst fields.now 1 }
+    requires kept { KeepsBefore fields.now few_nodes }
     requires fit { CountsFit fields.now }
-    ensures ok { OnOk result (KeepsFirst fields.now 4) }
+    ensures ok { OnOk result (KeepsBefore fields.now flow_names_differ) }
     ensures err { IfErr result (λ e. TellsBroken fields.now e) }
 {
     let nodes = fields.nodes.len();
-    if nodes > MOST_NODES {
+    if nodes > MAX_NODES {
         return Err(DomainError::TooMany {
             part: Part::Node,
             count: nodes as u32,
         });
     }
     let links = fields.links.len();
-    if links > MOST_LINKS {
+    if links > MAX_LINKS {
         return Err(DomainError::TooMany {
             part: Part::Link,
             count: links as u32,
         });
     }
     let flows = fields.flows.len();
-    if flows > MOST_FLOWS {
+    if flows > MAX_FLOWS {
         return Err(DomainError::TooMany {
             part: Part::Flow,
             count: flows as u32,
@@ -61,8 +63,8 @@ pub(crate) fn check_counts(fields: &Fields) -> Result<(), DomainError>
 
 /// Whether two flows or two nodes have the same name, or two flows the same number.
 pub(crate) fn check_repeats(fields: &Fields) -> Result<(), DomainError>
-    requires { KeepsFirst fields.now 4 }
-    ensures ok { OnOk result (KeepsFirst fields.now 7) }
+    requires { KeepsBefore fields.now flow_names_differ }
+    ensures ok { OnOk result (KeepsBefore fields.now ends_are_nodes) }
     ensures err { IfErr result (λ e. TellsBroken fields.now e) }
 {
     if let Some((first, second)) = repeated::<Flow, FlowNames>(fields.flows.as_slice()) {
@@ -91,10 +93,10 @@ pub(crate) fn check_repeats(fields: &Fields) -> Result<(), DomainError>
 
 /// The links by the numbers of their nodes, where each end is a node.
 pub(crate) fn check_ends(alloc: Global, fields: &Fields) -> Result<Vec<Edge>, DomainError>
-    requires { KeepsFirst fields.now 7 }
+    requires { KeepsBefore fields.now ends_are_nodes }
     ensures joined { IfOk result (λ edges.
         AllZip (Joins fields.now.nodes) fields.now.links edges.items) }
-    ensures ok { OnOk result (KeepsFirst fields.now 8) }
+    ensures ok { OnOk result (KeepsBefore fields.now ends_differ) }
     ensures err { IfErr result (λ e. TellsBroken fields.now e) }
 {
     match join_links(alloc, fields.nodes.as_slice(), fields.links.as_slice()) {
@@ -105,8 +107,8 @@ pub(crate) fn check_ends(alloc: Global, fields: &Fields) -> Result<Vec<Edge>, Do
 
 /// Whether a link leads from a node to itself, two links lead from and to the same nodes, or a node has no link.
 pub(crate) fn check_links(fields: &Fields) -> Result<(), DomainError>
-    requires { KeepsFirst fields.now 8 }
-    ensures ok { OnOk result (KeepsFirst fields.now 11) }
+    requires { KeepsBefore fields.now ends_differ }
+    ensures ok { OnOk result (KeepsBefore fields.now some_block) }
     ensures err { IfErr result (λ e. TellsBroken fields.now e) }
 {
     if let Some(link) = self_link(fields.links.as_slice()) {
@@ -130,13 +132,13 @@ pub(crate) fn check_blocks(
     fields: &Fields,
     edges: &[Edge],
 ) -> Result<(u64, u64), DomainError>
-    requires kept { KeepsFirst fields.now 11 }
+    requires kept { KeepsBefore fields.now some_block }
     requires timing { timing.now ≡ fields.now.times }
     requires some { 0 < length fields.now.nodes }
     requires joined { AllZip (Joins fields.now.nodes) fields.now.links edges.now }
     ensures laid_out { IfOk result (λ p. IsLaidOut fields.now edges.now p.0 p.1) }
     ensures some { IfOk result (λ p. p.0 < p.1) }
-    ensures few { IfOk result (λ p. length fields.now.flows * (p.1 - p.0) ≤ 32768) }
+    ensures few { IfOk result (λ p. length fields.now.flows * (p.1 - p.0) ≤ MAX_CELLS) }
     ensures err { IfErr result (λ e. TellsBlocks fields.now edges.now e) }
 {
     let (first, end) = reported(timing, fields.nodes.as_slice(), edges);
@@ -144,7 +146,7 @@ pub(crate) fn check_blocks(
         return Err(DomainError::NoBlock { first, end });
     }
     let count = fields.flows.len() as u128 * (end - first) as u128;
-    if count > MOST_CELLS {
+    if count > MAX_CELLS {
         return Err(DomainError::TooManyCells { count });
     }
     Ok((first, end))

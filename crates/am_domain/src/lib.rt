@@ -28,9 +28,11 @@ mod table;
 #[cfg(test)]
 mod tests;
 
-pub use domain::{Domain, read_domain};
+pub use domain::{Domain, MAX_DOMAIN, read_domain};
 pub use error::{DomainError, Key, Part, Repeated};
 pub use flow::Flow;
+pub use judge::{MAX_CELLS, MAX_FLOWS, MAX_LINKS, MAX_NODES};
 pub use laws::domain_law;
 pub use link::Edge;
 pub use node::Node;
+pub use table::{MAX_FLOW, is_file_name};

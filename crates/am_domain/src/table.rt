@@ -12,11 +12,17 @@ use am_addr::Prefix;
 use am_ip6::Place;
 use toml::{Table, Value};
 
-// The latest reading that a capture can have: 2^32 seconds, in nanoseconds.
-const LATEST: u64 = 4_294_967_296_000_000_000;
+/// The latest reading that a capture can have: 2^32 seconds, in nanoseconds.
+pub(crate) const MAX_READING: u64 = 4_294_967_296_000_000_000;
 
-// A flow's number has 20 bits (RFC 9343, section 3).
-const LAST_ID: u64 = 1_048_575;
+/// The greatest number of a flow, which has 20 bits (RFC 9343, section 3).
+pub const MAX_FLOW: u64 = 1_048_575;
+
+/// The most bytes of a name, so that it fits into a column of a report.
+pub(crate) const MAX_NAME: usize = 32;
+
+/// The most bytes of a file's name: what file systems take.
+pub(crate) const MAX_FILE_NAME: usize = 255;
 
 /// The value at a key.
 pub(crate) fn value_at<'a>(table: &'a Table, key: &str) -> Option<&'a Value>
@@ -88,7 +94,7 @@ fn has_name_bytes(text: &str) -> bool
 fn is_name(text: &str) -> bool
     ensures { IsTrue result ↔ IsName text.now }
 {
-    if text.is_empty() || text.len() > 32 {
+    if text.is_empty() || text.len() > MAX_NAME {
         return false;
     }
     has_name_bytes(text)
@@ -109,11 +115,12 @@ fn has_file_bytes(text: &str) -> bool
     text.as_bytes().iter().all(|byte| is_file_byte(*byte))
 }
 
-// Whether the text is a file's name.
-fn is_file_name(text: &str) -> bool
+/// Whether the text is a file's name: 1 to 255 bytes without control characters, as a domain file and the words of a
+/// command may have it.
+pub fn is_file_name(text: &str) -> bool
     ensures { IsTrue result ↔ IsFileName text.now }
 {
-    if text.is_empty() || text.len() > 255 {
+    if text.is_empty() || text.len() > MAX_FILE_NAME {
         return false;
     }
     has_file_bytes(text)
@@ -169,7 +176,7 @@ pub(crate) fn id_at(table: &Table, key: &str) -> Option<u32>
     let Some(number) = number_at(table, key) else {
         return None;
     };
-    if number > LAST_ID {
+    if number > MAX_FLOW {
         return None;
     }
     Some(number as u32)
@@ -183,7 +190,7 @@ pub(crate) fn reading_at(table: &Table, key: &str) -> Option<u64>
     let Some(number) = number_at(table, key) else {
         return None;
     };
-    if number > LATEST {
+    if number > MAX_READING {
         return None;
     }
     Some(number)

@@ -4,13 +4,13 @@ use Rattle.std.proofs.lemmas.Bool.{cases_lt}
 use Rattle.am_domain.specs.declared.link.Edge.{Edge}
 use Rattle.am_graph.specs.Lists.{list_at, IsListOf}
 use Rattle.am_graph.specs.Graphs.{GraphValue, Leads, start_of, end_of}
-use Rattle.am_graph.specs.Clusters.{IsChain, ClustersValue, count_of, cluster_of, AreNumbered, IsOf, IsStart, IsEnd, AreClusters, ArePartedAt, KeepsTogether, AreFinest}
+use Rattle.am_graph.specs.Clusters.{IsLinkChain, ClustersValue, count_of, cluster_of, AreNumbered, IsOfCluster, IsStart, IsEnd, AreClusters, ArePartedAt, KeepsTogether, AreFinest}
 use Rattle.am_graph.specs.Walks.{AreFound, cluster_at}
 use Rattle.am_graph.proofs.WalkLemmas.{joined-one, same-some}
 use Rattle.am_graph.proofs.PlaceLemmas.{list-same}
 
 -- a labelling that keeps neighbours together keeps the ends of a chain together
-along : (links : List Edge) (label : ℕ → ℕ) (a b : ℕ) (chain : List ℕ) → KeepsTogether links label → a < length links → IsChain links a chain b → label a ≡ label b
+along : (links : List Edge) (label : ℕ → ℕ) (a b : ℕ) (chain : List ℕ) → KeepsTogether links label → a < length links → IsLinkChain links a chain b → label a ≡ label b
 along links label a b [] keeps within x = ap label x
 along links label a b (next ∷ rest) keeps within x =
     keeps a next within x.0 x.1 ∙ along links label next b rest keeps x.0 x.2
@@ -91,7 +91,7 @@ are-clusters nodes links count starts ends c m = record {
   numbered = numbered links count starts ends c m;
   starts_each = m.starts_each ∙ sym m.counted;
   ends_each = m.ends_each ∙ sym m.counted;
-  links = λ k h. list-same (λ x. (x < length c.of_link) × (get_or c.of_link x 0 ≡ k)) (IsOf c k) (list_at c.links k)
+  links = λ k h. list-same (λ x. (x < length c.of_link) × (get_or c.of_link x 0 ≡ k)) (IsOfCluster c k) (list_at c.links k)
       (λ x p. record { within = p.0; here = p.1 })
       (λ x p. (p.within, p.here))
       (m.links_of k (omega (arith, h, m.counted)));

@@ -3,12 +3,12 @@ use Rattle.std.proofs.Common.{◌≡◌, ◌≢◌, ℕ, ◌+◌, ◌<◌, ◌�
 use Rattle.std.proofs.lemmas.Bool.{cases_lt, cases_eq}
 use Rattle.am_domain.specs.declared.link.Edge.{Edge}
 use Rattle.am_graph.specs.Graphs.{Leads, start_of}
-use Rattle.am_graph.specs.Clusters.{AreNeighbours, IsChain, AreJoined}
+use Rattle.am_graph.specs.Clusters.{AreNeighbours, IsLinkChain, AreJoined}
 use Rattle.am_graph.specs.Walks.{AreFound, IsFirst, Adds, Walks, IsUnused, cluster_at}
 use Rattle.am_graph.proofs.WalkLemmas.{joined-more, same-some, some-not_none}
 
-chain-both : (links : List Edge) (a b c : ℕ) (xs ys : List ℕ) → IsChain links a xs b → IsChain links b ys c → IsChain links a (xs ++ ys) c
-chain-both links a b c [] ys x y = subst (λ d. IsChain links d ys c) (sym x) y
+chain-both : (links : List Edge) (a b c : ℕ) (xs ys : List ℕ) → IsLinkChain links a xs b → IsLinkChain links b ys c → IsLinkChain links a (xs ++ ys) c
+chain-both links a b c [] ys x y = subst (λ d. IsLinkChain links d ys c) (sym x) y
 chain-both links a b c (next ∷ rest) ys x y = (x.0, x.1, chain-both links next b c rest ys x.2 y)
 
 pub joined-both : (links : List Edge) (a b c : ℕ) → AreJoined links a b → AreJoined links b c → AreJoined links a c
@@ -17,7 +17,7 @@ joined-both links a b c x y = (x.0 ++ y.0, chain-both links a b c x.0 y.0 x.1 y.
 neighbours-back : (links : List Edge) (a b : ℕ) → AreNeighbours links a b → AreNeighbours links b a
 neighbours-back links a b h = elim h [ inl e ↦ inl (sym e) | inr e ↦ inr (sym e) ]
 
-chain-back : (links : List Edge) (a b : ℕ) (xs : List ℕ) → a < length links → IsChain links a xs b → AreJoined links b a
+chain-back : (links : List Edge) (a b : ℕ) (xs : List ℕ) → a < length links → IsLinkChain links a xs b → AreJoined links b a
 chain-back links a b [] within x = ([], sym x)
 chain-back links a b (next ∷ rest) within x =
     joined-more links b next a (chain-back links next b rest x.0 x.2) within (neighbours-back links a next x.1)

@@ -3,11 +3,11 @@ use Rattle.std.proofs.Common.{◌≡◌, ◌≢◌, ℕ, ◌+◌, ◌<◌, ◌�
 use Rattle.am_domain.specs.declared.link.Edge.{Edge}
 use Rattle.am_graph.specs.Lists.{list_at}
 use Rattle.am_graph.specs.Graphs.{Leads, IsTable, start_of, end_of}
-use Rattle.am_graph.specs.Clusters.{AreNeighbours, IsChain, AreJoined}
+use Rattle.am_graph.specs.Clusters.{AreNeighbours, IsLinkChain, AreJoined}
 use Rattle.am_graph.specs.Walks.{Reaches, IsBeside, AreSettled, IsUnused, Adds, BeginsJoined, EndsJoined, Walks, cluster_at, unreached}
 
 -- a chain goes on with a neighbour of its last link
-chain-more : (links : List Edge) (a b c : ℕ) (chain : List ℕ) → IsChain links a chain b → c < length links → AreNeighbours links b c → IsChain links a (chain ++ c ∷ []) c
+chain-more : (links : List Edge) (a b c : ℕ) (chain : List ℕ) → IsLinkChain links a chain b → c < length links → AreNeighbours links b c → IsLinkChain links a (chain ++ c ∷ []) c
 chain-more links a b c [] here within beside = (within, subst (λ x. AreNeighbours links x c) (sym here) beside, refl)
 chain-more links a b c (next ∷ rest) here within beside = (here.0, here.1, chain-more links next b c rest here.2 within beside)
 

@@ -10,14 +10,14 @@ abbrev pub AreNeighbours : List Edge → ℕ → ℕ → Type 0
 AreNeighbours links a b = (start_of links a ≡ start_of links b) ⊎ (end_of links a ≡ end_of links b)
 
 -- the links of this chain lead from the first link to the last, each a neighbour of the one before
-abbrev pub IsChain : List Edge → ℕ → List ℕ → ℕ → Type 0
-IsChain links first [] last = first ≡ last
-IsChain links first (next ∷ rest) last =
-    (next < length links) × AreNeighbours links first next × IsChain links next rest last
+abbrev pub IsLinkChain : List Edge → ℕ → List ℕ → ℕ → Type 0
+IsLinkChain links first [] last = first ≡ last
+IsLinkChain links first (next ∷ rest) last =
+    (next < length links) × AreNeighbours links first next × IsLinkChain links next rest last
 
 -- a chain of links leads from one link to the other
 abbrev pub AreJoined : List Edge → ℕ → ℕ → Type 0
-AreJoined links a b = (chain : List ℕ) × IsChain links a chain b
+AreJoined links a b = (chain : List ℕ) × IsLinkChain links a chain b
 
 -- clusters: the cluster of each link; and of each cluster its links, and the nodes at which these begin and end
 pub record ClustersValue : Type 0 where
@@ -47,17 +47,17 @@ pub record AreNumbered (c : ClustersValue) : Type 0 where
   pub order : (k l a b : ℕ) → k < l → IsLeast c k a → IsLeast c l b → a < b
 
 -- the link is of the cluster
-pub record IsOf (c : ClustersValue) (cluster link : ℕ) : Type 0 where
+pub record IsOfCluster (c : ClustersValue) (cluster link : ℕ) : Type 0 where
   pub within : link < length c.of_link
   pub here : cluster_of c link ≡ cluster
 
 -- a link of the cluster begins at the node
 abbrev pub IsStart : List Edge → ClustersValue → ℕ → ℕ → Type 0
-IsStart links c cluster node = (link : ℕ) × IsOf c cluster link × (start_of links link ≡ node)
+IsStart links c cluster node = (link : ℕ) × IsOfCluster c cluster link × (start_of links link ≡ node)
 
 -- a link of the cluster ends at the node
 abbrev pub IsEnd : List Edge → ClustersValue → ℕ → ℕ → Type 0
-IsEnd links c cluster node = (link : ℕ) × IsOf c cluster link × (end_of links link ≡ node)
+IsEnd links c cluster node = (link : ℕ) × IsOfCluster c cluster link × (end_of links link ≡ node)
 
 -- the clusters of a graph: the classes of joined links, with their links, starts and ends
 pub record AreClusters (g : GraphValue) (c : ClustersValue) : Type 0 where
@@ -69,7 +69,7 @@ pub record AreClusters (g : GraphValue) (c : ClustersValue) : Type 0 where
   pub starts_each : length c.starts ≡ count_of c
   pub ends_each : length c.ends ≡ count_of c
   -- the lists ascend, so that each number stands in a list once
-  pub links : (k : ℕ) → k < count_of c → IsListOf (IsOf c k) (list_at c.links k)
+  pub links : (k : ℕ) → k < count_of c → IsListOf (IsOfCluster c k) (list_at c.links k)
   pub starts : (k : ℕ) → k < count_of c → IsListOf (IsStart g.links c k) (list_at c.starts k)
   pub ends : (k : ℕ) → k < count_of c → IsListOf (IsEnd g.links c k) (list_at c.ends k)
 

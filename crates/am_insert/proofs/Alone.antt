@@ -14,7 +14,7 @@ use Rattle.am_ip6.specs.Shown.{lent}
 use Rattle.am_ip6.specs.Laws.{HasOneWalk}
 use Rattle.am_insert.specs.Changes.{kind_of, size_place}
 use Rattle.am_insert.specs.Stripping.{EndsInPad, Stripped, without_header, with_shorter_header}
-use Rattle.am_insert.specs.Parts.{Bounds, IsFirstMarked, IsLone, IsPadded, CutsOut, IsInNoShape}
+use Rattle.am_insert.specs.Parts.{Bounds, IsFirstMarked, IsLoneMark, IsPadded, CutsOut, IsInNoShape}
 use Rattle.am_insert.specs.declared.strip.MarkedHeader.{MarkedHeader}
 use Rattle.am_insert.proofs.Headers.{first-one, one_of, member-in, member-stands}
 use Rattle.am_insert.proofs.Carried.{told-before}
@@ -164,7 +164,7 @@ module _ (walks : (packet : List ℕ) (whole : Bool) → HasOneWalk packet whole
               })) cut;
         }
 
-    not_both : IsLone p m → IsPadded m → ⊥
+    not_both : IsLoneMark p m → IsPadded m → ⊥
     not_both lone padded =
         let b = found-bounds in
         let two = mark-padded (drop 2 m.header.bytes.now) m.option.mark m.option.at found.shows.has (found.shows.padded padded.0) in

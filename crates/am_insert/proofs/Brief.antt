@@ -16,7 +16,7 @@ use Rattle.am_ip6.specs.Laws.{HasOneWalk}
 use Rattle.am_ip6.specs.Shown.{lent}
 use Rattle.am_insert.specs.Changes.{kind_of}
 use Rattle.am_insert.specs.Inserting.{HasNoneOf, WalkEnds, IsNoPacket}
-use Rattle.am_insert.specs.Parts.{FindsFirst, FollowsHeaders, ShowsFirst, IsFirstMarked, spot_shown}
+use Rattle.am_insert.specs.Parts.{FindsFirst, FollowsHeaders, ShowsFirst, IsFirstMarked, announced_spot}
 use Rattle.am_insert.specs.declared.insert.Announced.{Announced}
 use Rattle.am_insert.specs.declared.strip.MarkOption.{MarkOption}
 use Rattle.am_insert.specs.declared.strip.MarkedHeader.{MarkedHeader}
@@ -52,7 +52,7 @@ module _ (p : List ℕ) (next : ℕ) (w : Bool) (one : HasOneWalk p w) (walk : W
 
   pub bare-follows : (s : Announced) → IsBrief p None next → s.next ≡ next → s.at ≡ 40 → s.told_at ≡ 6 → FollowsHeaders p s
   bare-follows s brief kind at told =
-      let here : spot_shown s ≡ first_spot p =
+      let here : announced_spot s ≡ first_spot p =
       ap (λ k. let x : Spot = record { kind = k; at = s.at; told_at = s.told_at } in x) (kind ∙ brief.announced)
       ∙ ap (λ k. let x : Spot = record { kind = slice_index p 6; at = k; told_at = s.told_at } in x) at
       ∙ ap (λ k. let x : Spot = record { kind = slice_index p 6; at = 40; told_at = k } in x) told in

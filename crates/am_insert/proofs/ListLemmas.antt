@@ -2,7 +2,7 @@
 use Rattle.std.proofs.Common.{arith, refl, sym, ap, ◌∙◌, ◌≡◌, ◌≢◌, ℕ, zero, suc, ◌+◌, ◌-◌, ◌/◌, ◌%◌, ◌^◌, ◌<◌, ◌≤◌, List, [], ◌∷◌, ◌++◌, length, take, drop, set, slice_index, append_assoc, length-append}
 use Rattle.std.proofs.lemmas.List.{take-append-drop, length-take-le, length-drop, length-set, set-append_left, drop-set-lt, take_at, drop_at, set_comm, set-set, set-get_or, get_or-set_same, get_or-set_other, get_or_append_left, get_or-take}
 use Rattle.am_ip6.specs.Fixed.{IsFixed, payload_of, limit_of}
-use Rattle.am_insert.specs.Changes.{put_in, without_eight, with_payload, raised, lowered}
+use Rattle.am_insert.specs.Changes.{put_in, without_eight, with_payload, lengthened, shortened}
 
 -- a byte before the place changes alike in the front
 pub take-set-in : (n : ℕ) (xs : List ℕ) (i a : ℕ) → i < n → take n (set xs i a) ≡ set (take n xs) i a
@@ -77,7 +77,7 @@ all_back p t b m n four five high low =
 length-with_payload : (p : List ℕ) (n : ℕ) → length (with_payload n p) ≡ length p
 length-with_payload p n = length-set (set p 4 (n / 2 ^ 8)) 5 (n % 2 ^ 8) ∙ length-set p 4 (n / 2 ^ 8)
 
-pub length-raised : (p : List ℕ) (t b : ℕ) → length (raised p t b) ≡ length p
+pub length-raised : (p : List ℕ) (t b : ℕ) → length (lengthened p t b) ≡ length p
 length-raised p t b = length-set (with_payload (payload_of p + 8) p) t b ∙ length-with_payload p (payload_of p + 8)
 
 -- the payload length that a packet was given
@@ -97,15 +97,15 @@ pub record IsRaised (p q : List ℕ) (t b at : ℕ) : Type 0 where
   pub within : at ≤ length p
   pub behind : 6 ≤ t
   pub before : t < at
-  pub is : q ≡ put_in (raised p t b) at eight
+  pub is : q ≡ put_in (lengthened p t b) at eight
 
 module _ (p q : List ℕ) (t b at : ℕ) (r : IsRaised p q t b at) where
-  within_raised : at ≤ length (raised p t b)
+  within_raised : at ≤ length (lengthened p t b)
   within_raised = omega (arith, r.within, length-raised p t b)
 
   -- a byte before the place
-  front_at : (i : ℕ) → i < at → slice_index q i ≡ slice_index (raised p t b) i
-  front_at i low = ap (λ (l : List ℕ). slice_index l i) r.is ∙ at-put_in (raised p t b) r.eight at i low within_raised
+  front_at : (i : ℕ) → i < at → slice_index q i ≡ slice_index (lengthened p t b) i
+  front_at i low = ap (λ (l : List ℕ). slice_index l i) r.is ∙ at-put_in (lengthened p t b) r.eight at i low within_raised
 
   -- the bytes before the place that stay
   pub raised-same : (i : ℕ) → i < at → i ≢ t → i ≢ 4 → i ≢ 5 → slice_index q i ≡ slice_index p i
@@ -123,7 +123,7 @@ module _ (p q : List ℕ) (t b at : ℕ) (r : IsRaised p q t b at) where
 
   pub raised-length : length q ≡ length p + 8
   raised-length =
-      omega (arith, ap length r.is, length-put_in (raised p t b) r.eight at within_raised, length-raised p t b, r.size)
+      omega (arith, ap length r.is, length-put_in (lengthened p t b) r.eight at within_raised, length-raised p t b, r.size)
 
   pub raised-payload : payload_of q ≡ payload_of p + 8
   raised-payload =
@@ -142,13 +142,13 @@ module _ (p q : List ℕ) (t b at : ℕ) (r : IsRaised p q t b at) where
   }
 
   -- with the eight bytes out, and the others as they were, it is the packet
-  pub raised-back : slice_index p 5 < 2 ^ 8 → (old : ℕ) → old ≡ slice_index p t → p ≡ without_eight (lowered q t old) at
+  pub raised-back : slice_index p 5 < 2 ^ 8 → (old : ℕ) → old ≡ slice_index p t → p ≡ without_eight (shortened q t old) at
   raised-back byte old is =
-      let x = raised p t b in
+      let x = lengthened p t b in
       let n = payload_of q - 8 in
       let y = set (with_payload n x) t old in
       let low : 40 ≤ length x = omega (arith, r.whole, within_raised) in
-      let parts : lowered q t old ≡ put_in y at r.eight =
+      let parts : shortened q t old ≡ put_in y at r.eight =
       ap (λ (l : List ℕ). set (with_payload n l) t old) r.is
       ∙ ap (λ (l : List ℕ). set (set l 5 (n % 2 ^ 8)) t old)
       (set-put_in x r.eight at 4 (n / 2 ^ 8) (omega (arith, r.whole)) within_raised)

@@ -15,7 +15,7 @@ use Rattle.am_ip6.specs.Marks.{IsNoMark, HasMark, MarksChain, IsPassed}
 use Rattle.am_ip6.specs.Marks.Seen.{NoMark}
 use Rattle.am_ip6.specs.Seen.{SeenIn}
 use Rattle.am_ip6.specs.Laws.{HasOneWalk}
-use Rattle.am_insert.specs.Changes.{kind_of, size_place, end_of}
+use Rattle.am_insert.specs.Changes.{kind_of, size_place, header_end}
 use Rattle.am_insert.specs.declared.insert.InsertError.TheVariants.{Malformed, Cut, AlreadyMarked}
 use Rattle.am_insert.specs.Inserting.{Inserted, GetsHeader, PutsHeader, GetsLonger, IsOpen, IsUnmarked, IsMarkedAt, KeepsAddresses}
 use Rattle.am_insert.proofs.ListLemmas.{IsRaised, raised-same, raised-length, raised-fixed}
@@ -182,7 +182,7 @@ put-longer place p q mark hs fixed chain gets =
     let s = spot_after p (first_spot p) gets.first.before in
     let size = stands-size p s h parts.1 in
     let far = after-least p (first_spot p) gets.first.before parts.0 in
-    let r : IsRaised p q (size_place h) (slice_index p (size_place h) + 1) (end_of h) = record {
+    let r : IsRaised p q (size_place h) (slice_index p (size_place h) + 1) (header_end h) = record {
       eight = 1 ∷ 0 ∷ gets.longer.spelling;
       size = omega (arith, six gets.longer.spelling mark gets.longer.canonical);
       whole = omega (arith, far, parts.1.at);
@@ -191,7 +191,7 @@ put-longer place p q mark hs fixed chain gets =
       before = omega (arith, size);
       is = gets.longer.marked_is;
     } in
-    addresses-stay p q (size_place h) (slice_index p (size_place h) + 1) (end_of h) r fixed (λ i low high e. omega (arith, e, high, far, parts.1.at))
+    addresses-stay p q (size_place h) (slice_index p (size_place h) + 1) (header_end h) r fixed (λ i low high e. omega (arith, e, high, far, parts.1.at))
 
 -- a packet keeps its addresses
 pub addresses-kept : (p : List ℕ) (mark : Marking) (place : Place) (q : List ℕ) → IsFixed p → Inserted p mark place q → KeepsAddresses p q

@@ -8,7 +8,7 @@ use Rattle.am_ip6.specs.Chains.{Lent, Spot, HasOptions, first_spot, spot_after}
 use Rattle.am_ip6.specs.Laws.{HasOneWalk}
 use Rattle.am_insert.specs.Changes.{kind_of, put_in, with_payload, spot_of_new}
 use Rattle.am_insert.specs.Inserting.{PutsHeader, Lengthens}
-use Rattle.am_insert.specs.Parts.{FollowsHeaders, IsNewSpot, StandsIn, Bounds, IsEight, spot_shown}
+use Rattle.am_insert.specs.Parts.{FollowsHeaders, IsNewSpot, StandsIn, Bounds, IsEight, announced_spot}
 use Rattle.am_insert.specs.declared.insert.Announced.{Announced}
 use Rattle.am_insert.proofs.Carried.{stands-size, after-least, after-within, told-before, told-least}
 
@@ -45,7 +45,7 @@ lengthens p h m n size ys payload is eight = record {
 -- the mark in a new header
 pub puts-header :
     (p : List ℕ) (place : Place) (s : Announced) (m : Marking) (n k : ℕ) (ys : List ℕ) (hs : List Lent)
-    → spot_of_new place p hs ≡ spot_shown s → n ≡ payload_of p + 8 → k ≡ kind_of place → IsEight s.next m ys
+    → spot_of_new place p hs ≡ announced_spot s → n ≡ payload_of p + 8 → k ≡ kind_of place → IsEight s.next m ys
     → PutsHeader p (spot_of_new place p hs) (kind_of place) m (put_in (set (with_payload n p) s.told_at k) s.at ys)
 puts-header p place s m n k ys hs spot payload kind eight =
     subst (λ x. PutsHeader p x (kind_of place) m (put_in (set (with_payload n p) s.told_at k) s.at ys)) (sym spot)
@@ -59,7 +59,7 @@ puts-header p place s m n k ys hs spot payload kind eight =
     })
 
 -- where a new header goes
-pub spot-behind_fixed : (p : List ℕ) (s : Announced) → IsFixed p → spot_shown s ≡ first_spot p → IsNewSpot p HopByHop s
+pub spot-behind_fixed : (p : List ℕ) (s : Announced) → IsFixed p → announced_spot s ≡ first_spot p → IsNewSpot p HopByHop s
 spot-behind_fixed p s fixed is =
     let at : s.at ≡ 40 = ap (λ (x : Spot). x.at) is in
     let told : s.told_at ≡ 6 = ap (λ (x : Spot). x.told_at) is in

@@ -19,7 +19,7 @@ use Rattle.am_ip6.specs.Shown.{lent}
 use Rattle.am_insert.specs.Changes.{kind_of}
 use Rattle.am_insert.specs.Parts.{FindsFirst}
 use Rattle.am_insert.proofs.Headers.{none-first, first-alone as first-alone-header}
-use Rattle.am_insert.specs.Inserting.{IsFirstOf, HasNoneOf, WalkEnds, EndsWith, IsNoPacket, IsMarkedAt, IsFullHeader, Hinders, HindersFirst, IsOpen, rank, authentication}
+use Rattle.am_insert.specs.Inserting.{IsFirstOf, HasNoneOf, WalkEnds, WalkEndsWith, IsNoPacket, IsMarkedAt, IsFullHeader, Hinders, HindersFirst, IsOpen, rank, authentication}
 
 -- nothing of a rank below this one hinders
 abbrev pub Clear : List ℕ → Bool → Place → ℕ → Type 0
@@ -50,7 +50,7 @@ module _ (p : List ℕ) (w : Bool) (place : Place) where
   none-3 never (AlreadyMarked at) e h = never at h
   none-3 never other e h = absurd (omega (arith, e))
 
-  none-4 : (EndsWith p w authentication → ⊥) → None_of p w place 4
+  none-4 : (WalkEndsWith p w authentication → ⊥) → None_of p w place 4
   none-4 never Protected e h = never h
   none-4 never other e h = absurd (omega (arith, e))
 
@@ -77,7 +77,7 @@ module _ (p : List ℕ) (w : Bool) (place : Place) where
   pub clear-4 : Clear p w place 3 → ((at : ℕ) → IsMarkedAt p w place at → ⊥) → Clear p w place 4
   clear-4 clear never = clear-more p w place 3 clear (none-3 never)
 
-  pub clear-5 : Clear p w place 4 → (EndsWith p w authentication → ⊥) → Clear p w place 5
+  pub clear-5 : Clear p w place 4 → (WalkEndsWith p w authentication → ⊥) → Clear p w place 5
   clear-5 clear never = clear-more p w place 4 clear (none-4 never)
 
   pub clear-6 : Clear p w place 5 → (IsFullHeader p place → ⊥) → Clear p w place 6
@@ -116,7 +116,7 @@ module _ (p : List ℕ) (w : Bool) (n a t : ℕ) (one : HasOneWalk p w) (ends : 
   pub number-not_cut : WalkEnds p w WasCut → ⊥
   number-not_cut other = absurd (cc (ending-alone p w (AtNumber n a t) WasCut one ends other))
 
-  pub number-not_other : (m : ℕ) → n ≢ m → EndsWith p w m → ⊥
+  pub number-not_other : (m : ℕ) → n ≢ m → WalkEndsWith p w m → ⊥
   number-not_other m differ other =
       differ (number-same n a t m other.0 other.1 (ending-alone p w (AtNumber n a t) (AtNumber m other.0 other.1) one ends other.2))
 

@@ -14,7 +14,7 @@ use Rattle.am_ip6.specs.Marks.{IsNoMark, HasMark, HasNoMark, MarksChain, IsPasse
 use Rattle.am_ip6.specs.Marks.Seen.{NoMark}
 use Rattle.am_ip6.specs.Seen.{SeenIn}
 use Rattle.am_ip6.specs.Laws.{HasOneWalk}
-use Rattle.am_insert.specs.Changes.{IsBytes, kind_of, put_in, without_eight, raised, lowered, with_payload, size_place, end_of}
+use Rattle.am_insert.specs.Changes.{IsBytes, kind_of, put_in, without_eight, lengthened, shortened, with_payload, size_place, header_end}
 use Rattle.am_insert.specs.Inserting.{IsFirstOf, HasNoneOf, PutsHeader, Lengthens, GetsHeader, Inserted, IsUnmarked}
 use Rattle.am_insert.specs.Stripping.{Stripped}
 use Rattle.am_insert.proofs.ListLemmas.{IsRaised, raised-same, raised-byte, raised-length, raised-limit, raised-fixed, raised-back, length-raised}
@@ -129,7 +129,7 @@ part_longer x ys a n two within =
     ∙ drop-append-le 2 (take n (drop a x)) ys (omega (arith, part, two))
 
 -- the bytes of a packet from a place on, where those before it change
-drop-raised : (p : List ℕ) (t b n : ℕ) → 6 ≤ n → t < n → drop n (raised p t b) ≡ drop n p
+drop-raised : (p : List ℕ) (t b n : ℕ) → 6 ≤ n → t < n → drop n (lengthened p t b) ≡ drop n p
 drop-raised p t b n six_low low =
     let m = payload_of p + 8 in
     drop-set-lt n (with_payload m p) t b low
@@ -178,7 +178,7 @@ module _ (walks : (packet : List ℕ) (whole : Bool) → HasOneWalk packet whole
       let limit = raised-limit p q s.told_at kind s.at r in
       let front = front-carried p q hs (omega (arith, limit)) chain
       (λ i from below other. raised-same p q s.told_at kind s.at r i below other (λ e. omega (arith, e, from)) (λ e. omega (arith, e, from))) in
-      let x = raised p s.told_at kind in
+      let x = lengthened p s.told_at kind in
       let there : drop s.at q ≡ eight ++ drop s.at x =
       ap (λ (l : List ℕ). drop s.at l) puts.marked_is ∙ drop-put_in x eight s.at (omega (arith, low, length-raised p s.told_at kind)) in
       let next : slice_index q s.at ≡ s.kind =
@@ -223,7 +223,7 @@ module _ (walks : (packet : List ℕ) (whole : Bool) → HasOneWalk packet whole
           stripped_is =
               raised-back p q s.told_at kind s.at r byte (slice_index q s.at)
               (next ∙ told-kind p (first_spot p) hs refl)
-              ∙ ap (λ t. without_eight (lowered q t (slice_index q s.at)) s.at) (sym front.told);
+              ∙ ap (λ t. without_eight (shortened q t (slice_index q s.at)) s.at) (sym front.told);
         });
       }
 
@@ -249,7 +249,7 @@ module _ (walks : (packet : List ℕ) (whole : Bool) → HasOneWalk packet whole
       let size = stands-size p s h here in
       let t = size_place h in
       let b = slice_index p t + 1 in
-      let at = end_of h in
+      let at = header_end h in
       let ys = 1 ∷ 0 ∷ longer.spelling in
       let spelled = longer.canonical.spells in
       let ys_size : length ys ≡ 8 = omega (arith, six longer.spelling m spelled) in
@@ -268,7 +268,7 @@ module _ (walks : (packet : List ℕ) (whole : Bool) → HasOneWalk packet whole
       let limit = raised-limit p q t b at r in
       let front = front-carried p q first.before (omega (arith, limit)) parts.0
       (λ i from below other. raised-same p q t b at r i (omega (arith, below, here.at)) (λ e. omega (arith, e, below, here.at)) (λ e. omega (arith, e, from)) (λ e. omega (arith, e, from))) in
-      let x = raised p t b in
+      let x = lengthened p t b in
       let byte_is : slice_index q (s.at + 1) ≡ slice_index p (s.at + 1) + 1 =
       ap (λ i. slice_index q (i + 1)) (sym here.at) ∙ raised-byte p q t b at r ∙ ap (λ i. slice_index p (i + 1) + 1) here.at in
       let told_length : header_length q s.at ≡ n + 8 = omega (arith, size, byte_is) in
@@ -328,7 +328,7 @@ module _ (walks : (packet : List ℕ) (whole : Bool) → HasOneWalk packet whole
       let k_size : length k.bytes ≡ n + 8 =
       length-take-le (header_length q s.at) (drop s.at q)
       (omega (arith, length-drop s.at q, raised-length p q t b at r, told_length, size, here.fits.whole)) ∙ told_length in
-      let end_is : at ≡ end_of k - 8 = omega (arith, k_size) in
+      let end_is : at ≡ header_end k - 8 = omega (arith, k_size) in
       record {
         headers = walk.headers;
         chain = walk.chain;
@@ -339,7 +339,7 @@ module _ (walks : (packet : List ℕ) (whole : Bool) → HasOneWalk packet whole
           padded = record { front = unmarked.options; pad = pad_at (length (drop 2 h.bytes)); split = refl; is_pad = refl };
           stripped_is =
               raised-back p q t b at r byte (slice_index q t - 1) (omega (arith, raised-byte p q t b at r))
-              ∙ ap (λ i. without_eight (lowered q t (slice_index q t - 1)) i) end_is;
+              ∙ ap (λ i. without_eight (shortened q t (slice_index q t - 1)) i) end_is;
         });
       }
 

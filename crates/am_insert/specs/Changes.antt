@@ -28,20 +28,20 @@ abbrev pub with_payload : ℕ → List ℕ → List ℕ
 with_payload payload packet = slice_set (slice_set packet 4 (payload / 2 ^ 8)) 5 (payload % 2 ^ 8)
 
 -- the packet as it says that eight bytes more follow its fixed header, with this byte at this place
-abbrev pub raised : List ℕ → ℕ → ℕ → List ℕ
-raised packet place byte = slice_set (with_payload (payload_of packet + 8) packet) place byte
+abbrev pub lengthened : List ℕ → ℕ → ℕ → List ℕ
+lengthened packet place byte = slice_set (with_payload (payload_of packet + 8) packet) place byte
 
 -- the packet as it says that eight bytes fewer follow its fixed header, with this byte at this place
-abbrev pub lowered : List ℕ → ℕ → ℕ → List ℕ
-lowered packet place byte = slice_set (with_payload (payload_of packet - 8) packet) place byte
+abbrev pub shortened : List ℕ → ℕ → ℕ → List ℕ
+shortened packet place byte = slice_set (with_payload (payload_of packet - 8) packet) place byte
 
 -- the place of a header's Hdr Ext Len, which counts its bytes in units of eight after the first eight
 abbrev pub size_place : Lent → ℕ
 size_place h = h.at + 1
 
 -- where a header ends
-abbrev pub end_of : Lent → ℕ
-end_of h = h.at + length h.bytes
+abbrev pub header_end : Lent → ℕ
+header_end h = h.at + length h.bytes
 
 -- where a new header goes: directly behind the fixed header for Hop-by-Hop Options (RFC 8200, section 4.1), and behind all headers that are walked for Destination Options
 abbrev pub spot_of_new : Place → List ℕ → List Lent → Spot

@@ -10,7 +10,7 @@ use Rattle.am_ip6.specs.Marks.Seen.{Marks, NoMark}
 use Rattle.am_ip6.specs.Seen.{IsSeen}
 use Rattle.am_insert.specs.declared.insert.InsertError.{InsertError}
 use Rattle.am_insert.specs.declared.insert.InsertError.TheVariants.{NotIp6, Malformed, Cut, AlreadyMarked, Protected, HeaderFull, PacketFull}
-use Rattle.am_insert.specs.Changes.{kind_of, put_in, raised, size_place, end_of, spot_of_new}
+use Rattle.am_insert.specs.Changes.{kind_of, put_in, lengthened, size_place, header_end, spot_of_new}
 
 -- the first of these headers that is of this kind
 pub record IsFirstOf (kind : ℕ) (hs : List Lent) (h : Lent) : Type 0 where
@@ -26,12 +26,12 @@ HasNoneOf kind hs = All (λ x. x.kind ≢ kind) hs
 
 -- the packet with a new header of this kind at this spot: its number is announced there, it announces what stood there, and its one option is spelled so
 abbrev pub with_new_header : List ℕ → Spot → ℕ → List ℕ → List ℕ
-with_new_header packet s kind spelling = put_in (raised packet s.told_at kind) s.at (s.kind ∷ 0 ∷ spelling)
+with_new_header packet s kind spelling = put_in (lengthened packet s.told_at kind) s.at (s.kind ∷ 0 ∷ spelling)
 
 -- the packet with this header eight bytes longer: a PadN without data and an option that is spelled so come directly behind it, and its Hdr Ext Len is 1 more
 abbrev pub with_longer_header : List ℕ → Lent → List ℕ → List ℕ
 with_longer_header packet h spelling =
-    put_in (raised packet (size_place h) (slice_index packet (size_place h) + 1)) (end_of h) (1 ∷ 0 ∷ spelling)
+    put_in (lengthened packet (size_place h) (slice_index packet (size_place h) + 1)) (header_end h) (1 ∷ 0 ∷ spelling)
 
 -- this is the packet with the mark in a new header of this kind at this spot
 pub record PutsHeader (packet : List ℕ) (s : Spot) (kind : ℕ) (mark : Marking) (marked : List ℕ) : Type 0 where
@@ -79,13 +79,13 @@ abbrev pub IsNoPacket : List ℕ → Bool → Type 0
 IsNoPacket packet whole = IsOtherVersion packet ⊎ ((length packet < 40) × (whole ≡ true))
 
 -- the walk of the packet ends at this number
-abbrev pub EndsWith : List ℕ → Bool → ℕ → Type 0
-EndsWith packet whole next = (at told_at : ℕ) × WalkEnds packet whole (AtNumber next at told_at)
+abbrev pub WalkEndsWith : List ℕ → Bool → ℕ → Type 0
+WalkEndsWith packet whole next = (at told_at : ℕ) × WalkEnds packet whole (AtNumber next at told_at)
 
 -- the headers of the packet end at a number, and none of the kind has a mark
 pub record IsUnmarked (packet : List ℕ) (whole : Bool) (place : Place) : Type 0 where
   pub next : ℕ
-  pub ends : EndsWith packet whole next
+  pub ends : WalkEndsWith packet whole next
   pub none : IsSeen packet whole place NoMark
 
 -- the packet has a mark in this kind of header, at this place
@@ -110,7 +110,7 @@ Hinders packet whole place NotIp6 = IsNoPacket packet whole
 Hinders packet whole place (Malformed at) = WalkEnds packet whole (IsMalformed at)
 Hinders packet whole place Cut = WalkEnds packet whole WasCut
 Hinders packet whole place (AlreadyMarked at) = IsMarkedAt packet whole place at
-Hinders packet whole place Protected = EndsWith packet whole authentication
+Hinders packet whole place Protected = WalkEndsWith packet whole authentication
 Hinders packet whole place HeaderFull = IsFullHeader packet place
 Hinders packet whole place PacketFull = 65527 < payload_of packet
 

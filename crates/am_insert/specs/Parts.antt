@@ -17,8 +17,8 @@ use Rattle.am_insert.specs.declared.strip.MarkOption.{MarkOption}
 use Rattle.am_insert.specs.declared.strip.MarkedHeader.{MarkedHeader}
 
 -- what is announced, as a spot of the walk
-abbrev pub spot_shown : Announced → Spot
-spot_shown s = record { kind = s.next; at = s.at; told_at = s.told_at }
+abbrev pub announced_spot : Announced → Spot
+announced_spot s = record { kind = s.next; at = s.at; told_at = s.told_at }
 
 -- the first header of the kind, if the packet has one
 abbrev pub FindsFirst : List ℕ → Place → Option Header → Type 0
@@ -35,7 +35,7 @@ pub record IsEight (first : ℕ) (mark : Marking) (eight : List ℕ) : Type 0 wh
 -- this follows the headers of the packet, which has a fixed header
 pub record FollowsHeaders (packet : List ℕ) (s : Announced) : Type 0 where
   pub fixed : IsFixed packet
-  pub spot : (hs : List Lent) → HasHeaders packet hs → spot_after packet (first_spot packet) hs ≡ spot_shown s
+  pub spot : (hs : List Lent) → HasHeaders packet hs → spot_after packet (first_spot packet) hs ≡ announced_spot s
 
 -- a new header of the kind goes here
 pub record IsNewSpot (packet : List ℕ) (place : Place) (s : Announced) : Type 0 where
@@ -43,7 +43,7 @@ pub record IsNewSpot (packet : List ℕ) (place : Place) (s : Announced) : Type 
   pub before : s.told_at < s.at
   pub behind : 6 ≤ s.told_at
   pub within : s.at ≤ length packet
-  pub spot : (hs : List Lent) → HasHeaders packet hs → spot_of_new place packet hs ≡ spot_shown s
+  pub spot : (hs : List Lent) → HasHeaders packet hs → spot_of_new place packet hs ≡ announced_spot s
 
 -- the header stands in the packet behind its fixed header
 pub record StandsIn (packet : List ℕ) (h : Lent) : Type 0 where
@@ -70,18 +70,18 @@ abbrev pub IsPadded : MarkedHeader → Type 0
 IsPadded m = (m.option.padded ≡ true) × (m.option.at + 8 ≡ length m.header.bytes.now)
 
 -- the header of the mark has eight bytes
-abbrev pub IsLone : List ℕ → MarkedHeader → Type 0
-IsLone packet m = slice_index packet (m.header.at + 1) ≡ 0
+abbrev pub IsLoneMark : List ℕ → MarkedHeader → Type 0
+IsLoneMark packet m = slice_index packet (m.header.at + 1) ≡ 0
 
 -- this is the packet without the mark: without its header, or without the last eight bytes of it
 abbrev pub CutsOut : List ℕ → MarkedHeader → List ℕ → Type 0
 CutsOut packet m stripped =
-    (IsLone packet m × (stripped ≡ without_header packet m.told_at (lent m.header)))
+    (IsLoneMark packet m × (stripped ≡ without_header packet m.told_at (lent m.header)))
     ⊎ (IsPadded m × (stripped ≡ with_shorter_header packet (lent m.header)))
 
 -- the mark stands in none of the shapes in which marks are put in
 abbrev pub IsInNoShape : List ℕ → MarkedHeader → Type 0
-IsInNoShape packet m = (IsLone packet m → ⊥) × (IsPadded m → ⊥)
+IsInNoShape packet m = (IsLoneMark packet m → ⊥) × (IsPadded m → ⊥)
 
 -- the first of these headers that has a mark among those of the kind, and the byte that announces it
 pub record IsFirstMarked (kind : ℕ) (packet : List ℕ) (hs : List Lent) (m : MarkedHeader) : Type 0 where

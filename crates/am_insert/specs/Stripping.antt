@@ -5,16 +5,16 @@ use Rattle.am_opts.specs.Options.{Placed}
 use Rattle.am_ip6.specs.declared.marks.Place.{Place}
 use Rattle.am_ip6.specs.Chains.{Lent, HasHeaders, first_spot, spot_after}
 use Rattle.am_ip6.specs.Marks.{MarksChain}
-use Rattle.am_insert.specs.Changes.{kind_of, without_eight, lowered, size_place, end_of}
+use Rattle.am_insert.specs.Changes.{kind_of, without_eight, shortened, size_place, header_end}
 
 -- the packet without this header of eight bytes: the byte that announced it, at this place, announces what the header did
 abbrev pub without_header : List ℕ → ℕ → Lent → List ℕ
-without_header packet told_at h = without_eight (lowered packet told_at (slice_index packet h.at)) h.at
+without_header packet told_at h = without_eight (shortened packet told_at (slice_index packet h.at)) h.at
 
 -- the packet without the last eight bytes of this header, whose Hdr Ext Len is 1 less
 abbrev pub with_shorter_header : List ℕ → Lent → List ℕ
 with_shorter_header packet h =
-    without_eight (lowered packet (size_place h) (slice_index packet (size_place h) - 1)) (end_of h - 8)
+    without_eight (shortened packet (size_place h) (slice_index packet (size_place h) - 1)) (header_end h - 8)
 
 -- the last of these options is a PadN without data (RFC 8200, section 4.2)
 pub record EndsInPad (options : List Placed) : Type 0 where

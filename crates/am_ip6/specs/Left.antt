@@ -39,5 +39,5 @@ abbrev pub left_from : List ℕ → Option Announced → List Lent
 left_from packet None = []
 left_from packet (Some s) = headers_from (length packet) packet (spot_shown s)
 
-abbrev pub left : Walk → List Lent
-left w = left_from w.bytes.now w.spot
+abbrev pub headers_left : Walk → List Lent
+headers_left w = left_from w.bytes.now w.spot

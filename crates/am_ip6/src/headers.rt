@@ -23,13 +23,13 @@ pub struct Walk<'a> {
 }
 
 impl<'a> Walk<'a> {
-    ghost use Rattle.am_ip6.specs.Left.{left};
+    ghost use Rattle.am_ip6.specs.Left.{headers_left};
 
     /// The walk of a packet, all of whose bytes are there or not. It lends the longest chain of headers,
     /// and none where the bytes begin with no fixed header of version 6.
     pub fn over(bytes: &'a [u8], whole: bool) -> Walk<'a>
-        ensures headers { HasHeaders bytes.now (left result) }
-        ensures few { length (left result) ≤ length bytes.now }
+        ensures headers { HasHeaders bytes.now (headers_left result) }
+        ensures few { length (headers_left result) ≤ length bytes.now }
     {
         longest_front_law();
         let Ok(spot) = start(bytes, whole) else {
@@ -50,13 +50,13 @@ impl<'a> Walk<'a> {
 impl<'a> Iterator for Walk<'a> {
     ghost use Rattle.std.specs.Iterator.{YieldsFirstBy, item_count};
     ghost use Rattle.am_ip6.specs.Shown.{lent};
-    ghost use Rattle.am_ip6.specs.Left.{left};
+    ghost use Rattle.am_ip6.specs.Left.{headers_left};
 
     type Item = Header<'a>;
 
-    ghost next_gives = { YieldsFirstBy lent left };
+    ghost next_gives = { YieldsFirstBy lent headers_left };
 
-    ghost remaining = { item_count left };
+    ghost remaining = { item_count headers_left };
 
     fn next(&mut self) -> Option<Header<'a>> {
         longest_front_law();

@@ -16,7 +16,7 @@ use Rattle.am_pcap.specs.declared.record.Record.{Record}
 use Rattle.am_pcap.specs.declared.capture.FileError.{FileError}
 use Rattle.am_pcap.specs.declared.capture.FileError.TheVariants.{Missing, ReadFault, TooLong, Bad, Memory}
 use Rattle.am_cells.specs.CellTables.{CellTable, total_of}
-use Rattle.am_domain.specs.Values.{NodeValue}
+use Rattle.am_domain.specs.Values.{NodeValue, no_node}
 use Rattle.am_domain.specs.Domains.{DomainValue}
 use Rattle.am_meter.specs.declared.stream.Marked.{Marked}
 use Rattle.am_meter.specs.declared.stream.MeterError.TheVariants.{File}
@@ -26,7 +26,7 @@ use Rattle.am_meter.specs.Marks.MarksRefusal.{Long, BadCapture, HeadersCut as Cu
 use Rattle.am_meter.specs.Metering.{AreMetered, CountsMore}
 use Rattle.am_meter.specs.Batches.{BatchRecord, batch_record, bytes_in, HasRoomFor, HaveMarks, CutsFirst}
 use Rattle.am_meter.specs.Filling.{record_of, records_of, Loads, HasNext, Fills, FillsToEnd, FillsSo, FillsUntil}
-use Rattle.am_meter.specs.MeteredFiles.{no_node, capture_of, AreCellsOf, RefusesCapture, WhyNoCells, MetersOn}
+use Rattle.am_meter.specs.MeteredFiles.{capture_of, AreCellsOf, RefusesCapture, WhyNoCells, MetersOn}
 use Rattle.am_meter.proofs.Onward.{file-more, file-both}
 use Rattle.am_meter.proofs.Packed.{marks-of-packets, AreMarked-append, CutsPacket, cuts-packet}
 

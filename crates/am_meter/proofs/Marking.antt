@@ -12,7 +12,7 @@ use Rattle.am_pcap.specs.declared.head.Head.{Head}
 use Rattle.am_pcap.specs.declared.frame.LinkKind.{LinkKind}
 use Rattle.am_pcap.specs.declared.frame.Frame.{Frame}
 use Rattle.am_pcap.specs.declared.frame.Frame.TheVariants.{Ip6, Other, Cut}
-use Rattle.am_meter.specs.Marks.{AreSeen, IsSeenIn, ShowsMark, AreMarked, marked_in}
+use Rattle.am_meter.specs.Marks.{AreSeen, IsSeenIn, FrameShowsMark, AreMarked, marked_in}
 use Rattle.am_meter.specs.declared.stream.Marked.{Marked}
 
 -- what is found in a packet is what the bytes of its record show
@@ -62,7 +62,7 @@ module _
   where
     frame-once :
         (place : Place) (bytes : List ℕ) (whole : Bool) (f : Frame) (a b : Seen)
-        → ShowsMark place bytes whole f a → ShowsMark place bytes whole f b → a ≡ b
+        → FrameShowsMark place bytes whole f a → FrameShowsMark place bytes whole f b → a ≡ b
     frame-once place bytes whole (Ip6 at) a b x y = seens (drop at bytes) whole place a b x y
     frame-once place bytes whole Other a b x y = x ∙ sym y
     frame-once place bytes whole Cut a b x y = x ∙ sym y
@@ -72,7 +72,7 @@ module _
         → AreSeen place link bytes whole a → AreSeen place link bytes whole b → a ≡ b
     seen-once place link bytes whole a b x y =
         let same : y.frame ≡ x.frame = frames link bytes whole y.frame x.frame y.framed x.framed in
-        frame-once place bytes whole x.frame a b x.shows (subst (λ f. ShowsMark place bytes whole f b) same y.shows)
+        frame-once place bytes whole x.frame a b x.shows (subst (λ f. FrameShowsMark place bytes whole f b) same y.shows)
 
     pub record-once :
         (place : Place) (link : LinkKind) (p : Packet) (a b : Seen) → IsSeenIn place link p a → IsSeenIn place link p b → a ≡ b

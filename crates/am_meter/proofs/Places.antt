@@ -2,12 +2,11 @@
 use Rattle.std.proofs.Common.{arith, sym, ap, subst, ◌≡◌, ℕ, ◌+◌, ◌-◌, ◌*◌, ◌/◌, ◌%◌, ◌^◌, ◌<◌, ◌≤◌, Bool, true, ◌==◌, IsTrue, [], length, slice_index_or, nat_le, nat_lt, Option, Some, None, eq-eqb, eqb-true, leb-true, ltb-true}
 use Rattle.std.proofs.lemmas.Bool.{and_parts, and_from}
 use Rattle.am_clock.specs.Times.{Times, half, parity, in_window, belongs_to}
-use Rattle.am_domain.specs.Values.{FlowValue}
+use Rattle.am_domain.specs.Values.{FlowValue, no_node}
 use Rattle.am_domain.specs.Domains.{DomainValue, Reports, IsLawful}
 use Rattle.am_domain.specs.Lookups.{IsFirstWith, NoneHas, HasId}
 use Rattle.am_meter.specs.declared.stream.Marked.{Marked}
 use Rattle.am_meter.specs.Metering.{node_shift}
-use Rattle.am_meter.specs.MeteredFiles.{no_node}
 use Rattle.am_meter.specs.Lookups.{CountsAt}
 
 abbrev no_flow : FlowValue

@@ -15,16 +15,16 @@ use Rattle.am_pcap.specs.declared.frame.Frame.TheVariants.{Ip6, Other, Cut}
 use Rattle.am_meter.specs.declared.stream.Marked.{Marked}
 
 -- what the bytes of a record that hold this frame show of a mark in this kind of header (RFC 9343, section 4)
-abbrev pub ShowsMark : Place → List ℕ → Bool → Frame → Seen → Type 0
-ShowsMark place bytes whole (Ip6 at) seen = IsSeen (drop at bytes) whole place seen
-ShowsMark place bytes whole Other seen = seen ≡ NoMark
-ShowsMark place bytes whole Cut seen = seen ≡ CutOff
+abbrev pub FrameShowsMark : Place → List ℕ → Bool → Frame → Seen → Type 0
+FrameShowsMark place bytes whole (Ip6 at) seen = IsSeen (drop at bytes) whole place seen
+FrameShowsMark place bytes whole Other seen = seen ≡ NoMark
+FrameShowsMark place bytes whole Cut seen = seen ≡ CutOff
 
 -- what the bytes of a record of this link type show of a mark, where all bytes of the packet were captured or not
 pub record AreSeen (place : Place) (link : LinkKind) (bytes : List ℕ) (whole : Bool) (seen : Seen) : Type 0 where
   pub frame : Frame
   pub framed : IsFramed link bytes whole frame
-  pub shows : ShowsMark place bytes whole frame seen
+  pub shows : FrameShowsMark place bytes whole frame seen
 
 -- what a record of this link type shows of a mark
 abbrev pub IsSeenIn : Place → LinkKind → Packet → Seen → Type 0

@@ -8,7 +8,7 @@ use Rattle.am_pcap.specs.CaptureFiles.{ReadsOn}
 use Rattle.am_pcap.specs.declared.head.Head.{Head}
 use Rattle.am_pcap.specs.declared.capture.FileError.TheVariants.{Missing, ReadFault, TooLong, Bad, Memory}
 use Rattle.am_cells.specs.CellTables.{CellTable, total_of}
-use Rattle.am_domain.specs.Values.{NodeValue}
+use Rattle.am_domain.specs.Values.{no_node}
 use Rattle.am_domain.specs.Domains.{DomainValue}
 use Rattle.am_meter.specs.declared.stream.Marked.{Marked}
 use Rattle.am_meter.specs.declared.stream.MeterError.{MeterError}
@@ -16,10 +16,6 @@ use Rattle.am_meter.specs.declared.stream.MeterError.TheVariants.{File, HeadersC
 use Rattle.am_meter.specs.Marks.{AreMarked, JudgesMarks, MarksRefusal}
 use Rattle.am_meter.specs.Marks.MarksRefusal.{Long, BadCapture, HeadersCut as CutAt}
 use Rattle.am_meter.specs.Metering.{AreMetered}
-
--- a node that is none: what stands for the nodes behind the last
-abbrev pub no_node : NodeValue
-no_node = record { name = []; capture = []; from = 0; until = 0 }
 
 -- the name of the file with the capture of a node
 abbrev pub capture_of : DomainValue → ℕ → List ℕ

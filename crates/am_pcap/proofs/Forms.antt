@@ -2,7 +2,7 @@
 use Rattle.std.proofs.Common.{refl, sym, ap, subst, ◌∙◌, ◌≡◌, ℕ, Bool, true, false, List, [], ◌∷◌, cond, get_or}
 use Rattle.std.specs.Int.{w32, to_be_bytes, to_le_bytes}
 use Rattle.am_pcap.specs.Packets.{word}
-use Rattle.am_pcap.specs.Heads.{half, IsHead, magic_of, link_number}
+use Rattle.am_pcap.specs.Heads.{half_word, IsHead, magic_of, link_number}
 use Rattle.am_pcap.specs.declared.record.Form.{Form}
 use Rattle.am_pcap.specs.declared.frame.LinkKind.{LinkKind}
 use Rattle.am_pcap.specs.declared.frame.LinkKind.TheVariants.{Ethernet, RawIp, RawIp6}
@@ -27,7 +27,7 @@ IsReadBack form link raw = IsHead (record { raw = raw; form = form; link = link 
 of-literals :
     (big nano : Bool) (link : LinkKind)
     → IsReadBack (record { big = big; nano = nano }) link (laid_out big (bytes_of big (magic_of nano)) (bytes_of big 262144) (bytes_of big (link_number link)))
-unfolding word half
+unfolding word half_word
 of-literals true true Ethernet = record { magic = refl; version = (refl, refl); link = refl; raw = refl }
 of-literals true true RawIp = record { magic = refl; version = (refl, refl); link = refl; raw = refl }
 of-literals true true RawIp6 = record { magic = refl; version = (refl, refl); link = refl; raw = refl }

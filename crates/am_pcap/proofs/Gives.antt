@@ -9,7 +9,7 @@ use Rattle.am_pcap.specs.Decoded.{Decoded, after_take}
 use Rattle.am_pcap.specs.Shown.{packet_shown}
 use Rattle.am_pcap.specs.Readings.{Reading, HasGiven}
 use Rattle.am_pcap.specs.Answers.{GivesRecord, GivesEnd, EndsReading}
-use Rattle.am_pcap.specs.Seeking.{Holds, Found}
+use Rattle.am_pcap.specs.Seeking.{WereRead, Found}
 use Rattle.am_pcap.specs.declared.record.Record.{Record}
 use Rattle.am_pcap.proofs.Shelved.{part-more}
 use Rattle.am_pcap.proofs.ReadFiles.{reads-on}
@@ -40,9 +40,9 @@ gave old d held read over d' held' read' before after n (Some x) view going f is
     let given : (bytes : List ℕ) (ps : List Packet) → HasGiven old bytes ps
     → HasGiven (record { decoded = n; held = held'; read = read'; over = over }) (bytes ++ f.more) (ps ++ packet_shown x ∷ []) = λ bytes ps g.
     let here = subst (λ y. HasGiven y bytes ps) (sym view) g in
-    let h : Holds d held bytes ps = record { taken = here.taken; split = here.split; summary = here.summary } in
-    let m : Holds d' held' (bytes ++ f.more) (ps ++ packet_shown x ∷ []) =
-    subst (λ y. Holds d' held' (bytes ++ f.more) (ps ++ y ∷ [])) same (f.moves bytes ps h) in
+    let h : WereRead d held bytes ps = record { taken = here.taken; split = here.split; summary = here.summary } in
+    let m : WereRead d' held' (bytes ++ f.more) (ps ++ packet_shown x ∷ []) =
+    subst (λ y. WereRead d' held' (bytes ++ f.more) (ps ++ y ∷ [])) same (f.moves bytes ps h) in
     record {
       taken = m.taken;
       split = m.split;

@@ -10,7 +10,7 @@ use Rattle.am_pcap.specs.Captures.{Summary, HasSummary, IsTooLong}
 use Rattle.am_pcap.specs.Decoded.{Decoded, Took, Refused, Counts, nothing_taken}
 use Rattle.am_pcap.specs.Readings.{IsCut, most_read}
 use Rattle.am_pcap.specs.CaptureFiles.{ReadsOn, RefusesOpen, IsRefusedHeader, WhyNotOpened}
-use Rattle.am_pcap.specs.Seeking.{Holds, HeadUnread, HeadFed, HeadBad, HeadFound, HeadGrown, HeadFault, HeadRefused, HeadFails, waiting_packets, reading_of}
+use Rattle.am_pcap.specs.Seeking.{WereRead, HeadUnread, HeadFed, HeadBad, HeadFound, HeadGrown, HeadFault, HeadRefused, HeadFails, waiting_packets, reading_with}
 use Rattle.am_pcap.specs.declared.refusal.CapError.{CapError}
 use Rattle.am_pcap.specs.declared.head.Head.{Head}
 use Rattle.am_pcap.specs.declared.capture.FileError.{FileError}
@@ -185,7 +185,7 @@ found-join d d' held' read' d'' held'' read'' a b c h p q = record {
   count = q.count;
   more = p.more ++ q.more;
   took = takes-join a b c p.more q.more p.took q.took;
-  moves = λ bytes s. subst (λ x. Holds d'' held'' x []) (append_assoc bytes p.more q.more) (q.moves (bytes ++ p.more) (p.moves bytes s));
+  moves = λ bytes s. subst (λ x. WereRead d'' held'' x []) (append_assoc bytes p.more q.more) (q.moves (bytes ++ p.more) (p.moves bytes s));
 }
 
 fault-join :
@@ -225,11 +225,11 @@ new-summary d is = subst (λ x. HasSummary [] [] x.summary) (sym is) summary-non
 pub head-opened :
     (d d' : Decoded) (held' : List ℕ) (read' : ℕ) (before mid after : Option Told) (name : List ℕ) (h : Head)
     → d ≡ nothing_taken → Opens before mid name → HeadFound d d' held' read' mid after h
-    → (k : Head) × (d'.summary.head ≡ Some k) × ReadsOn before after name (reading_of d' held' read') k []
+    → (k : Head) × (d'.summary.head ≡ Some k) × ReadsOn before after name (reading_with d' held' read') k []
 head-opened d d' held' read' before mid after name h is opens f =
     let part = part-more before mid after name [] f.more (part-none before mid name opens) f.took in
     let given = holds-given d' held' read' f.more [] f.order (f.moves [] (new-summary d is)) in
-    (h, f.head, reads-on before after name f.more (reading_of d' held' read') h [] part given refl f.head f.order.short)
+    (h, f.head, reads-on before after name f.more (reading_with d' held' read') h [] part given refl f.head f.order.short)
 
 -- a file that was opened, whose header can't be had
 pub head-not_opened :

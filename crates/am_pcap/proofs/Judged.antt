@@ -3,7 +3,7 @@ use Rattle.std.proofs.Common.{arith, refl, sym, ap, subst, ◌∙◌, ◌≡◌,
 use Rattle.std.proofs.lemmas.Bool.{cases_eq, cases_Bool}
 use Rattle.std.proofs.lemmas.Slice.Eq.{bytes_eq-Decides}
 use Rattle.std.specs.Prelude.{bytes_eq}
-use Rattle.am_pcap.specs.Heads.{half, magic_bytes, link_number, link_bits, HasMagic, HasVersion, SomeMagic, IsHead, IsRefusedHead, IsJudged}
+use Rattle.am_pcap.specs.Heads.{half_word, magic_bytes, link_number, link_bits, HasMagic, HasVersion, SomeMagic, IsHead, IsRefusedHead, IsJudged}
 use Rattle.am_pcap.specs.declared.record.Form.{Form}
 use Rattle.am_pcap.specs.declared.frame.LinkKind.{LinkKind}
 use Rattle.am_pcap.specs.declared.frame.LinkKind.TheVariants.{Ethernet, RawIp, RawIp6}
@@ -150,8 +150,8 @@ kind-or_not n = elim (cases_eq n 1) [
 ]
 
 version-or_not : (form : Form) (bytes : List ℕ) → HasVersion form bytes ⊎ (HasVersion form bytes → ⊥)
-version-or_not form bytes = elim (cases_eq (half form.big bytes 4) 2) [
-  | inl a ↦ elim (cases_eq (half form.big bytes 6) 4) [ inl b ↦ inl (a, b) | inr n ↦ inr (λ v. n v.1) ]
+version-or_not form bytes = elim (cases_eq (half_word form.big bytes 4) 2) [
+  | inl a ↦ elim (cases_eq (half_word form.big bytes 6) 4) [ inl b ↦ inl (a, b) | inr n ↦ inr (λ v. n v.1) ]
   | inr n ↦ inr (λ v. n v.0)
 ]
 

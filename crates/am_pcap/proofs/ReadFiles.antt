@@ -7,7 +7,7 @@ use Rattle.am_pcap.specs.Packets.{Packet, HoldsPackets}
 use Rattle.am_pcap.specs.Heads.{IsHead}
 use Rattle.am_pcap.specs.Captures.{Summary, HasSummary, HasRecords, IsCapture, IsRefusedAfter}
 use Rattle.am_pcap.specs.Decoded.{Decoded}
-use Rattle.am_pcap.specs.Seeking.{reading_of}
+use Rattle.am_pcap.specs.Seeking.{reading_with}
 use Rattle.am_pcap.specs.Readings.{Reading, HasGiven, IsCut, AreRefused, most_read}
 use Rattle.am_pcap.specs.CaptureFiles.{HasHead, Begins, BeginsWith, IsWholeCapture, IsLong, IsRefusedIn, IsRefusedBehind, IsReadWhole, ReadsOn, WhyStopped}
 use Rattle.am_pcap.specs.Answers.{GivesEnd, GivesFault, GivesRefusal, GivesError, EndsReading, StopsReading}
@@ -186,10 +186,10 @@ stops-reading old before after e g = λ first name h ps on.
 
 -- a capture of these parts that goes on
 going : (d : Decoded) (held : List ℕ) (read : ℕ) (over : Bool) (old : Reading)
-    → record { decoded = d; held = held; read = read; over = over } ≡ old → old.over ≡ false → reading_of d held read ≡ old
+    → record { decoded = d; held = held; read = read; over = over } ≡ old → old.over ≡ false → reading_with d held read ≡ old
 going d held read over old view is =
     let on : over ≡ false = ap (λ x. x.over) view ∙ is in
-    let parts : reading_of d held read ≡ record { decoded = d; held = held; read = read; over = over } =
+    let parts : reading_with d held read ≡ record { decoded = d; held = held; read = read; over = over } =
     ap (λ o. record { decoded = d; held = held; read = read; over = o }) (sym on) in
     parts ∙ view
 
@@ -201,7 +201,7 @@ pub record Ends (old : Reading) (before after : Option Told) : Type 0 where
 pub ends-so :
     (d : Decoded) (held : List ℕ) (read : ℕ) (over : Bool) (old : Reading) (before after : Option Told)
     → record { decoded = d; held = held; read = read; over = over } ≡ old → old.over ≡ false
-    → GivesEnd (reading_of d held read) before after → Ends old before after
+    → GivesEnd (reading_with d held read) before after → Ends old before after
 ends-so d held read over old before after view is e =
     let gives : GivesEnd old before after = subst (λ x. GivesEnd x before after) (going d held read over old view is) e in
     record { ended = ends-reading old before after gives; at_end = gives }
@@ -214,7 +214,7 @@ pub record Stops (old : Reading) (before after : Option Told) (e : FileError) : 
 pub stops-at :
     (d : Decoded) (held : List ℕ) (read : ℕ) (over : Bool) (old : Reading) (before after : Option Told) (e : FileError)
     → record { decoded = d; held = held; read = read; over = over } ≡ old → old.over ≡ false
-    → GivesError (reading_of d held read) before after e → Stops old before after e
+    → GivesError (reading_with d held read) before after e → Stops old before after e
 stops-at d held read over old before after e view is g =
     let gives : GivesError old before after e = subst (λ x. GivesError x before after e) (going d held read over old view is) g in
     record { refused = stops-reading old before after e gives; error = gives }

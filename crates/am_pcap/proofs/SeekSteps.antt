@@ -9,7 +9,7 @@ use Rattle.am_pcap.specs.Captures.{HasSummary, IsCapture, IsRefusedAfter, verdic
 use Rattle.am_pcap.specs.Decoded.{Decoded, Took, Refused, Counts}
 use Rattle.am_pcap.specs.Readings.{HasGiven, AreRefused, most_read}
 use Rattle.am_pcap.specs.Answers.{GivesEnd, GivesFault, GivesTooLong, GivesRefusal, GivesError}
-use Rattle.am_pcap.specs.Seeking.{InOrder, Holds, Drains, DrainsTo, RefillFails, Continued, Found, reading_of, waiting_packets}
+use Rattle.am_pcap.specs.Seeking.{InOrder, WereRead, Drains, DrainsTo, RefillFails, Continued, Found, reading_with, waiting_packets}
 use Rattle.am_pcap.specs.declared.refusal.CapError.{CapError}
 use Rattle.am_pcap.specs.declared.capture.FileError.{FileError}
 use Rattle.am_pcap.specs.declared.capture.FileError.TheVariants.{Missing, ReadFault, TooLong, Bad, Memory}
@@ -18,13 +18,13 @@ use Rattle.am_pcap.proofs.Steps.{drop-whole}
 use Rattle.am_pcap.proofs.Shelved.{takes-none, takes-join, end-stays}
 
 -- what was given is held so
-pub given-holds : (d : Decoded) (held : List ℕ) (read : ℕ) (bytes : List ℕ) (ps : List Packet) → HasGiven (reading_of d held read) bytes ps → Holds d held bytes ps
+pub given-holds : (d : Decoded) (held : List ℕ) (read : ℕ) (bytes : List ℕ) (ps : List Packet) → HasGiven (reading_with d held read) bytes ps → WereRead d held bytes ps
 given-holds d held read bytes ps g = record { taken = g.taken; split = g.split; summary = g.summary }
 
 -- and back, where all fits together
 pub holds-given :
-    (d : Decoded) (held : List ℕ) (read : ℕ) (bytes : List ℕ) (ps : List Packet) → InOrder d held read → Holds d held bytes ps
-    → HasGiven (reading_of d held read) bytes ps
+    (d : Decoded) (held : List ℕ) (read : ℕ) (bytes : List ℕ) (ps : List Packet) → InOrder d held read → WereRead d held bytes ps
+    → HasGiven (reading_with d held read) bytes ps
 holds-given d held read bytes ps o h = record {
   taken = h.taken;
   split = h.split;
@@ -103,7 +103,7 @@ found-drained d held read d' held' told o r w =
       waits = some.1;
       more = [];
       took = takes-none told;
-      moves = λ bytes ps h. subst (λ x. Holds d' held' (bytes ++ []) (ps ++ waiting_packets x)) some.1 (r.moves bytes ps h);
+      moves = λ bytes ps h. subst (λ x. WereRead d' held' (bytes ++ []) (ps ++ waiting_packets x)) some.1 (r.moves bytes ps h);
     }
 
 -- all was decoded, and nothing waits
@@ -112,9 +112,9 @@ record AllDecoded (d' : Decoded) (bytes : List ℕ) (ps : List Packet) : Type 0 
 
 all-decoded :
     (d : Decoded) (held : List ℕ) (d' : Decoded) (held' : List ℕ) → Drains d held d' held' → d'.waiting ≡ None
-    → (bytes : List ℕ) (ps : List Packet) → Holds d held bytes ps → AllDecoded d' bytes ps
+    → (bytes : List ℕ) (ps : List Packet) → WereRead d held bytes ps → AllDecoded d' bytes ps
 all-decoded d held d' held' r none bytes ps h =
-    let m : Holds d' held' (bytes ++ []) (ps ++ waiting_packets None) = subst (λ x. Holds d' held' (bytes ++ []) (ps ++ waiting_packets x)) none (r.moves bytes ps h) in
+    let m : WereRead d' held' (bytes ++ []) (ps ++ waiting_packets None) = subst (λ x. WereRead d' held' (bytes ++ []) (ps ++ waiting_packets x)) none (r.moves bytes ps h) in
     let all : m.taken ≡ bytes =
     sym (append-nil m.taken) ∙ ap (λ x. m.taken ++ x) (sym (r.none_left none)) ∙ sym m.split ∙ append-nil bytes in
     record { summary = subst (λ x. HasSummary bytes x d'.summary) (append-nil ps) (subst (λ x. HasSummary x (ps ++ []) d'.summary) all m.summary) }
@@ -143,10 +143,10 @@ continued-refilled d held read d' held' more read' before after o r none took is
 pub refill-fails :
     (d : Decoded) (held : List ℕ) (read : ℕ) (d' : Decoded) (held' : List ℕ) (before after : Option Told) (e : FileError)
     → InOrder d held read → Drains d held d' held' → d'.waiting ≡ None → RefillFails read before after e
-    → GivesError (reading_of d held read) before after e
+    → GivesError (reading_with d held read) before after e
 refill-fails d held read d' held' before after Missing o r none f = f
 refill-fails d held read d' held' before after ReadFault o r none f =
-    let fault : GivesFault (reading_of d held read) before after = record {
+    let fault : GivesFault (reading_with d held read) before after = record {
       more = [];
       took = subst (λ x. Takes before x []) (sym f) (takes-none before);
       all = λ bytes ps g. (
@@ -156,7 +156,7 @@ refill-fails d held read d' held' before after ReadFault o r none f =
       );
     } in fault
 refill-fails d held read d' held' before after TooLong o r none f =
-    let long : GivesTooLong (reading_of d held read) before after = record {
+    let long : GivesTooLong (reading_with d held read) before after = record {
       more = f.0;
       took = f.1;
       long = λ bytes ps g. omega (arith, f.2, g.read, length-append bytes f.0);
@@ -167,7 +167,7 @@ refill-fails d held read d' held' before after Memory o r none f = f
 -- the decoder refused what was held
 pub refused-drained :
     (d : Decoded) (held : List ℕ) (read : ℕ) (told : Option Told) (e : CapError) → InOrder d held read → DrainsTo d held e
-    → GivesRefusal (reading_of d held read) told told e
+    → GivesRefusal (reading_with d held read) told told e
 refused-drained d held read told e o f = record {
   more = [];
   took = takes-none told;
@@ -192,7 +192,7 @@ at-end before after more took none end =
 pub ended :
     (d : Decoded) (held : List ℕ) (read : ℕ) (d' : Decoded) (held' more : List ℕ) (before after : Option Told) (u : Unit {0})
     → InOrder d held read → Drains d held d' held' → d'.waiting ≡ None → Takes before after more → more ≡ [] → IsAtEnd before → Ok u ≡ verdict d'.summary
-    → GivesEnd (reading_of d held read) before after
+    → GivesEnd (reading_with d held read) before after
 ended d held read d' held' more before after u o r none took empty end says =
     let a = at-end before after more took empty end in
     record {
@@ -212,7 +212,7 @@ ended d held read d' held' more before after u o r none took empty end says =
 pub ended-cut :
     (d : Decoded) (held : List ℕ) (read : ℕ) (d' : Decoded) (held' more : List ℕ) (before after : Option Told) (e : CapError)
     → InOrder d held read → Drains d held d' held' → d'.waiting ≡ None → Takes before after more → more ≡ [] → IsAtEnd before → Err e ≡ verdict d'.summary
-    → GivesRefusal (reading_of d held read) before after e
+    → GivesRefusal (reading_with d held read) before after e
 ended-cut d held read d' held' more before after e o r none took empty end says =
     let a = at-end before after more took empty end in
     record {
@@ -236,7 +236,7 @@ continued-none d held read told o = record {
   count = refl;
   more = [];
   took = takes-none told;
-  moves = λ bytes ps h. subst (λ x. Holds d held x ps) (sym (append-nil bytes)) h;
+  moves = λ bytes ps h. subst (λ x. WereRead d held x ps) (sym (append-nil bytes)) h;
 }
 
 pub continued-join :
@@ -248,7 +248,7 @@ continued-join d held read d' held' read' d'' held'' read'' a b c p q = record {
   count = q.count ∙ p.count;
   more = p.more ++ q.more;
   took = takes-join a b c p.more q.more p.took q.took;
-  moves = λ bytes ps h. subst (λ x. Holds d'' held'' x ps) (append_assoc bytes p.more q.more) (q.moves (bytes ++ p.more) ps (p.moves bytes ps h));
+  moves = λ bytes ps h. subst (λ x. WereRead d'' held'' x ps) (append_assoc bytes p.more q.more) (q.moves (bytes ++ p.more) ps (p.moves bytes ps h));
 }
 
 pub found-join :
@@ -265,19 +265,19 @@ found-join d held read d' held' read' d'' held'' read'' a b c p q = record {
   waits = q.waits;
   more = p.more ++ q.more;
   took = takes-join a b c p.more q.more p.took q.took;
-  moves = λ bytes ps h. subst (λ x. Holds d'' held'' x (ps ++ q.packet ∷ [])) (append_assoc bytes p.more q.more) (q.moves (bytes ++ p.more) ps (p.moves bytes ps h));
+  moves = λ bytes ps h. subst (λ x. WereRead d'' held'' x (ps ++ q.packet ∷ [])) (append_assoc bytes p.more q.more) (q.moves (bytes ++ p.more) ps (p.moves bytes ps h));
 }
 
 -- what was given before is given still
 given-continued :
     (d : Decoded) (held : List ℕ) (read : ℕ) (d' : Decoded) (held' : List ℕ) (read' : ℕ) (a b : Option Told) (p : Continued d held read d' held' read' a b)
-    → (bytes : List ℕ) (ps : List Packet) → HasGiven (reading_of d held read) bytes ps → HasGiven (reading_of d' held' read') (bytes ++ p.more) ps
+    → (bytes : List ℕ) (ps : List Packet) → HasGiven (reading_with d held read) bytes ps → HasGiven (reading_with d' held' read') (bytes ++ p.more) ps
 given-continued d held read d' held' read' a b p bytes ps g =
     holds-given d' held' read' (bytes ++ p.more) ps p.order (p.moves bytes ps (given-holds d held read bytes ps g))
 
 pub end-join :
     (d : Decoded) (held : List ℕ) (read : ℕ) (d' : Decoded) (held' : List ℕ) (read' : ℕ) (a b c : Option Told)
-    → Continued d held read d' held' read' a b → GivesEnd (reading_of d' held' read') b c → GivesEnd (reading_of d held read) a c
+    → Continued d held read d' held' read' a b → GivesEnd (reading_with d' held' read') b c → GivesEnd (reading_with d held read) a c
 end-join d held read d' held' read' a b c p q = record {
   more = p.more ++ q.more;
   took = takes-join a b c p.more q.more p.took q.took;
@@ -290,7 +290,7 @@ end-join d held read d' held' read' a b c p q = record {
 
 fault-join :
     (d : Decoded) (held : List ℕ) (read : ℕ) (d' : Decoded) (held' : List ℕ) (read' : ℕ) (a b c : Option Told)
-    → Continued d held read d' held' read' a b → GivesFault (reading_of d' held' read') b c → GivesFault (reading_of d held read) a c
+    → Continued d held read d' held' read' a b → GivesFault (reading_with d' held' read') b c → GivesFault (reading_with d held read) a c
 fault-join d held read d' held' read' a b c p q = record {
   more = p.more ++ q.more;
   took = takes-join a b c p.more q.more p.took q.took;
@@ -302,7 +302,7 @@ fault-join d held read d' held' read' a b c p q = record {
 
 long-join :
     (d : Decoded) (held : List ℕ) (read : ℕ) (d' : Decoded) (held' : List ℕ) (read' : ℕ) (a b c : Option Told)
-    → Continued d held read d' held' read' a b → GivesTooLong (reading_of d' held' read') b c → GivesTooLong (reading_of d held read) a c
+    → Continued d held read d' held' read' a b → GivesTooLong (reading_with d' held' read') b c → GivesTooLong (reading_with d held read) a c
 long-join d held read d' held' read' a b c p q = record {
   more = p.more ++ q.more;
   took = takes-join a b c p.more q.more p.took q.took;
@@ -313,7 +313,7 @@ long-join d held read d' held' read' a b c p q = record {
 
 refusal-join :
     (d : Decoded) (held : List ℕ) (read : ℕ) (d' : Decoded) (held' : List ℕ) (read' : ℕ) (a b c : Option Told) (e : CapError)
-    → Continued d held read d' held' read' a b → GivesRefusal (reading_of d' held' read') b c e → GivesRefusal (reading_of d held read) a c e
+    → Continued d held read d' held' read' a b → GivesRefusal (reading_with d' held' read') b c e → GivesRefusal (reading_with d held read) a c e
 refusal-join d held read d' held' read' a b c e p q = record {
   more = p.more ++ q.more;
   took = takes-join a b c p.more q.more p.took q.took;
@@ -325,7 +325,7 @@ refusal-join d held read d' held' read' a b c e p q = record {
 
 pub error-join :
     (d : Decoded) (held : List ℕ) (read : ℕ) (d' : Decoded) (held' : List ℕ) (read' : ℕ) (a b c : Option Told) (e : FileError)
-    → Continued d held read d' held' read' a b → GivesError (reading_of d' held' read') b c e → GivesError (reading_of d held read) a c e
+    → Continued d held read d' held' read' a b → GivesError (reading_with d' held' read') b c e → GivesError (reading_with d held read) a c e
 error-join d held read d' held' read' a b c Missing p q = q
 error-join d held read d' held' read' a b c ReadFault p q = fault-join d held read d' held' read' a b c p q
 error-join d held read d' held' read' a b c TooLong p q = long-join d held read d' held' read' a b c p q

@@ -44,9 +44,9 @@ pub record Took (old new : Decoded) (piece : List ℕ) (n : ℕ) : Type 0 where
   pub goes : Goes old new (take n piece)
 
 -- the bytes of the file header, or of a record's header where the file header was taken
-abbrev pub header_length : Option Head → ℕ
-header_length None = 24
-header_length (Some h) = 16
+abbrev pub head_length : Option Head → ℕ
+head_length None = 24
+head_length (Some h) = 16
 
 -- it refused: it took bytes up to the end of the header that is refused, with no whole record among them, and keeps the
 -- refusal
@@ -54,7 +54,7 @@ pub record Refused (old new : Decoded) (piece : List ℕ) (e : CapError) : Type 
   pub n : ℕ
   pub took : Took old new piece n
   pub kept : new.summary.error ≡ Some e
-  pub ends : length new.summary.unfinished ≡ header_length new.summary.head
+  pub ends : length new.summary.unfinished ≡ head_length new.summary.head
   pub waiting : new.waiting ≡ None
   pub same : new.summary.count ≡ old.summary.count
 

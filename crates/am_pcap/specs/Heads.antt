@@ -10,9 +10,9 @@ use Rattle.am_pcap.specs.declared.refusal.CapError.TheVariants.{BadMagic, BadVer
 use Rattle.am_pcap.specs.declared.head.Head.{Head}
 
 -- the 16-bit number at a place of the bytes, in the file's byte order
-unfoldable pub half : Bool → List ℕ → ℕ → ℕ
-half false bytes at = slice_index bytes at + slice_index bytes (at + 1) * 2 ^ 8
-half true bytes at = slice_index bytes at * 2 ^ 8 + slice_index bytes (at + 1)
+unfoldable pub half_word : Bool → List ℕ → ℕ → ℕ
+half_word false bytes at = slice_index bytes at + slice_index bytes (at + 1) * 2 ^ 8
+half_word true bytes at = slice_index bytes at * 2 ^ 8 + slice_index bytes (at + 1)
 
 -- the magic that files begin with, by the unit of their fractions
 abbrev pub magic_of : Bool → ℕ
@@ -39,7 +39,7 @@ HasMagic form bytes = take 4 bytes ≡ magic_bytes form
 
 -- the version behind the magic is 2.4
 abbrev pub HasVersion : Form → List ℕ → Type 0
-HasVersion form bytes = (half form.big bytes 4 ≡ 2) × (half form.big bytes 6 ≡ 4)
+HasVersion form bytes = (half_word form.big bytes 4 ≡ 2) × (half_word form.big bytes 6 ≡ 4)
 
 -- the 24 bytes are the file header that tells this form and link type
 pub record IsHead (h : Head) (bytes : List ℕ) : Type 0 where

@@ -1,5 +1,6 @@
 -- What stands in a capture, as bytes: the file header, then records one after another (the pcap savefile format).
 use Rattle.std.specs.Prelude.{◌≡◌, ℕ, ◌+◌, ◌*◌, ◌^◌, ◌≤◌, Bool, true, false, List, [], ◌∷◌, length, take, drop, slice_index}
+use Rattle.am_pcap.specs.declared.decoder.TheConstants.{MAX_CAPTURED}
 
 -- the 32-bit number at a place of the bytes, in the file's byte order: the lowest byte stands first, or last where the order is big-endian
 unfoldable pub word : Bool → List ℕ → ℕ → ℕ
@@ -17,7 +18,7 @@ pub record Packet : Type 0 where
 
 -- the most bytes of a packet that a record may have
 abbrev pub most_captured : ℕ
-most_captured = 262144
+most_captured = MAX_CAPTURED
 
 -- the bytes begin with a whole record: its header of 16 bytes, and as many bytes behind it as that says, which are not too many
 pub record IsWhole (big : Bool) (bytes : List ℕ) : Type 0 where

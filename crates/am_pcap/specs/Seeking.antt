@@ -28,11 +28,11 @@ pub record IsInOrder (d : Decoded) (held : List ℕ) (h : Head) (read : ℕ) (ov
   pub going : over ≡ false → InOrder d held read
 
 -- a capture of these parts
-abbrev pub reading_of : Decoded → List ℕ → ℕ → Reading
-reading_of d held read = record { decoded = d; held = held; read = read; over = false }
+abbrev pub reading_with : Decoded → List ℕ → ℕ → Reading
+reading_with d held read = record { decoded = d; held = held; read = read; over = false }
 
 -- these bytes were read: those that the decoder took, whose whole records have these packets, and those that are held
-pub record Holds (d : Decoded) (held bytes : List ℕ) (ps : List Packet) : Type 0 where
+pub record WereRead (d : Decoded) (held bytes : List ℕ) (ps : List Packet) : Type 0 where
   pub taken : List ℕ
   pub split : bytes ≡ taken ++ held
   pub summary : HasSummary taken ps d.summary
@@ -45,7 +45,7 @@ waiting_packets (Some p) = p ∷ []
 -- whatever was read and decoded before, it is so now, with these bytes more and with the packet that waits now
 abbrev pub Moves : Decoded → List ℕ → Decoded → List ℕ → List ℕ → Type 0
 Moves d held d' held' more =
-    (bytes : List ℕ) (ps : List Packet) → Holds d held bytes ps → Holds d' held' (bytes ++ more) (ps ++ waiting_packets d'.waiting)
+    (bytes : List ℕ) (ps : List Packet) → WereRead d held bytes ps → WereRead d' held' (bytes ++ more) (ps ++ waiting_packets d'.waiting)
 
 -- the decoder took of what was held: all, or as much as brings a record to wait
 pub record Drains (d : Decoded) (held : List ℕ) (d' : Decoded) (held' : List ℕ) : Type 0 where
@@ -61,7 +61,7 @@ pub record Drains (d : Decoded) (held : List ℕ) (d' : Decoded) (held' : List �
 -- the decoder refused what was held, behind the packets before: whatever bytes come behind those that were read, they are
 -- refused so
 abbrev pub DrainsTo : Decoded → List ℕ → CapError → Type 0
-DrainsTo d held e = (bytes : List ℕ) (ps : List Packet) → Holds d held bytes ps → AreRefused e bytes ps × (IsCut e → ⊥)
+DrainsTo d held e = (bytes : List ℕ) (ps : List Packet) → WereRead d held bytes ps → AreRefused e bytes ps × (IsCut e → ⊥)
 
 -- why no more bytes could be had
 abbrev pub RefillFails : ℕ → Option Told → Option Told → FileError → Type 0
@@ -78,7 +78,7 @@ pub record Continued (d : Decoded) (held : List ℕ) (read : ℕ) (d' : Decoded)
   pub count : d'.summary.count ≡ d.summary.count
   pub more : List ℕ
   pub took : Takes before after more
-  pub moves : (bytes : List ℕ) (ps : List Packet) → Holds d held bytes ps → Holds d' held' (bytes ++ more) ps
+  pub moves : (bytes : List ℕ) (ps : List Packet) → WereRead d held bytes ps → WereRead d' held' (bytes ++ more) ps
 
 -- a record came to wait
 pub record Found (d : Decoded) (held : List ℕ) (read : ℕ) (d' : Decoded) (held' : List ℕ) (read' : ℕ) (before after : Option Told) : Type 0 where
@@ -92,17 +92,17 @@ pub record Found (d : Decoded) (held : List ℕ) (read : ℕ) (d' : Decoded) (he
   pub waits : d'.waiting ≡ Some packet
   pub more : List ℕ
   pub took : Takes before after more
-  pub moves : (bytes : List ℕ) (ps : List Packet) → Holds d held bytes ps → Holds d' held' (bytes ++ more) (ps ++ packet ∷ [])
+  pub moves : (bytes : List ℕ) (ps : List Packet) → WereRead d held bytes ps → WereRead d' held' (bytes ++ more) (ps ++ packet ∷ [])
 
 -- what one step came to
 abbrev pub Steps : Decoded → List ℕ → ℕ → Decoded → List ℕ → ℕ → Option Told → Option Told → Step → Type 0
 Steps d held read d' held' read' before after Waits = Found d held read d' held' read' before after
-Steps d held read d' held' read' before after Ends = GivesEnd (reading_of d held read) before after
+Steps d held read d' held' read' before after Ends = GivesEnd (reading_with d held read) before after
 Steps d held read d' held' read' before after Continues = Continued d held read d' held' read' before after × (read < read')
 
 -- what a search came to: a record waits, or the file is at its end
 abbrev pub Sought : Decoded → List ℕ → ℕ → Decoded → List ℕ → ℕ → Option Told → Option Told → Bool → Type 0
-Sought d held read d' held' read' before after false = GivesEnd (reading_of d held read) before after
+Sought d held read d' held' read' before after false = GivesEnd (reading_with d held read) before after
 Sought d held read d' held' read' before after true = Found d held read d' held' read' before after
 
 -- a decoder that took the first bytes of a file, of which the file header isn't whole, and nothing is held
@@ -123,7 +123,7 @@ pub record HeadFed (d : Decoded) (held : List ℕ) (d' : Decoded) (held' : List 
   pub count : d'.summary.count ≡ 0
   pub all : d'.summary.taken + length held' ≡ d.summary.taken + length held
   pub missing : d'.summary.head ≡ None → (held' ≡ []) × (d'.summary.taken < 24)
-  pub moves : (bytes : List ℕ) → HasSummary bytes [] d.summary → Holds d' held' (bytes ++ held) []
+  pub moves : (bytes : List ℕ) → HasSummary bytes [] d.summary → WereRead d' held' (bytes ++ held) []
 
 -- the file header is refused, whatever bytes follow those that are held
 pub record HeadBad (d : Decoded) (held : List ℕ) (e : CapError) : Type 0 where
@@ -137,7 +137,7 @@ pub record HeadFound (d d' : Decoded) (held' : List ℕ) (read' : ℕ) (before a
   pub count : d'.summary.count ≡ 0
   pub more : List ℕ
   pub took : Takes before after more
-  pub moves : (bytes : List ℕ) → HasSummary bytes [] d.summary → Holds d' held' (bytes ++ more) []
+  pub moves : (bytes : List ℕ) → HasSummary bytes [] d.summary → WereRead d' held' (bytes ++ more) []
 
 -- bytes of the file header were read, and it isn't whole yet
 pub record HeadGrown (d d' : Decoded) (held' : List ℕ) (read' : ℕ) (before after : Option Told) : Type 0 where

@@ -2,7 +2,7 @@
 ghost use Rattle.std.specs.Prelude.{◌≡◌, ◌+◌, ◌-◌, ◌*◌, ◌<◌, ◌≤◌, ◌^◌, ◌++◌, ℕ, List, [], length, take, min, Some, None, Ok, Err, IsSome, IsTrue, ◌↔◌, IfOk, IfErr, IfSome, IfNone, OnOk, OnSome, MatchOption, vec_len, vec_capacity, cond};
 ghost use Rattle.std.specs.Borrow.{sem};
 ghost use Rattle.am_pcap.specs.Captures.{verdict, IsVerdict};
-ghost use Rattle.am_pcap.specs.Decoded.{Decoded, nothing_taken, after_take, CanTake, Took, Refused, Passed, Counts, Goes, StandsFor, header_length};
+ghost use Rattle.am_pcap.specs.Decoded.{Decoded, nothing_taken, after_take, CanTake, Took, Refused, Passed, Counts, Goes, StandsFor, head_length};
 ghost use Rattle.am_pcap.specs.Packets.{word, IsWhole, first_packet};
 ghost use Rattle.am_pcap.specs.Shown.{packet_shown};
 ghost use Rattle.am_pcap.specs.declared.refusal.CapError.{CapError};
@@ -16,14 +16,17 @@ use std::marker::Model;
 #[cfg(test)]
 mod tests;
 
-/// The bytes of a file header and of a record header, the most bytes that a record may have behind its header, and
-/// what a decoder has room for.
+/// The bytes of a file header.
 const FILE_HEAD: usize = 24;
 
+/// The bytes of a record's header.
 pub const RECORD_HEAD: usize = 16;
 
-const MOST_CAPTURED: u32 = 262_144;
+/// The most bytes of a packet that a record may have: what the capturing programs write at most (their snapshot length
+/// when none is asked for). A length above it is taken for a sign that the bytes are no record.
+pub(crate) const MAX_CAPTURED: u32 = 262_144;
 
+/// What a decoder has room for: a record's header and the most bytes after it.
 const ROOM: usize = 262_160;
 
 /// Takes the bytes of a capture in any pieces, and gives its records one by one.
@@ -172,7 +175,7 @@ impl Decoder {
             return Ok(n);
         }
         let length = word_at(head.form.big, &self.buffer, 8);
-        if length > MOST_CAPTURED {
+        if length > MAX_CAPTURED {
             let error = CapError::RecordTooLong {
                 number: self.count + 1,
                 length,
@@ -323,7 +326,7 @@ fn whole_front(big: bool, piece: &[u8]) -> Option<usize>
         return None;
     }
     let captured = word_at(big, piece, 8);
-    if captured > MOST_CAPTURED {
+    if captured > MAX_CAPTURED {
         return None;
     }
     let n = captured as usize;

@@ -3,7 +3,7 @@ ghost use Rattle.std.specs.Prelude.{◌≡◌, ◌+◌, ◌++◌, ◌∷◌, ℕ
 ghost use Rattle.std.specs.Int.{w32, to_be_bytes, to_le_bytes};
 ghost use Rattle.am_pcap.specs.Packets.{word, HoldsPackets};
 ghost use Rattle.am_pcap.specs.Spelling.{head_spelled};
-ghost use Rattle.am_pcap.specs.Heads.{half, magic_of, link_number, link_bits, HasMagic, IsHead, IsJudged, SomeMagic};
+ghost use Rattle.am_pcap.specs.Heads.{half_word, magic_of, link_number, link_bits, HasMagic, IsHead, IsJudged, SomeMagic};
 ghost use Rattle.am_pcap.specs.declared.frame.LinkKind.{LinkKind};
 
 use crate::frame::LinkKind;
@@ -49,7 +49,7 @@ const BIG_NANO: Form = Form {
 
 /// The 24 bytes of a file header of this form and link type, in the form's byte order: zone and accuracy are 0, the
 /// snapshot length is 262,144, and the upper 16 bits of the link type are 0.
-#[tactic(auto, unfolding(crate::specs::Packets::word, crate::specs::Heads::half))]
+#[tactic(auto, unfolding(crate::specs::Packets::word, crate::specs::Heads::half_word))]
 pub fn file_head(form: Form, link: LinkKind) -> [u8; 24]
     ensures read_back { IsHead (record { raw = result; form = form; link = link }) result }
     ensures zone { word form.big result 8 ≡ 0 }
@@ -221,10 +221,10 @@ pub fn word_at(big: bool, bytes: &[u8], at: usize) -> u32
 }
 
 // The 16-bit number at a place of the bytes, in a byte order.
-#[tactic(auto, unfolding(crate::specs::Heads::half))]
+#[tactic(auto, unfolding(crate::specs::Heads::half_word))]
 fn half_at(big: bool, bytes: &[u8], at: usize) -> u16
     requires { at + 2 ≤ length bytes.now }
-    ensures { result ≡ half big bytes.now at }
+    ensures { result ≡ half_word big bytes.now at }
 {
     let two = [bytes[at], bytes[at + 1]];
     if big {

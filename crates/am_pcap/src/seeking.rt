@@ -6,7 +6,7 @@ ghost use Rattle.am_pcap.specs.Captures.{HasSummary};
 ghost use Rattle.am_pcap.specs.Decoded.{CanTake};
 ghost use Rattle.am_pcap.specs.Readings.{most_read};
 ghost use Rattle.am_pcap.specs.Answers.{GivesError};
-ghost use Rattle.am_pcap.specs.Seeking.{InOrder, Drains, DrainsTo, RefillFails, HeadUnread, HeadFed, HeadBad, HeadFound, HeadFails, HeadSteps, Steps, Sought, reading_of};
+ghost use Rattle.am_pcap.specs.Seeking.{InOrder, Drains, DrainsTo, RefillFails, HeadUnread, HeadFed, HeadBad, HeadFound, HeadFails, HeadSteps, Steps, Sought, reading_with};
 ghost use Rattle.am_pcap.specs.declared.capture.FileError.TheVariants.{ReadFault};
 
 use crate::capture::FileError;
@@ -16,8 +16,9 @@ use crate::held::Held;
 use crate::refusal::CapError;
 use am_base::Shelf;
 
-/// The most bytes of a capture's file: 2^40.
-const MOST_READ: u64 = 1 << 40;
+/// The most bytes of a capture's file: 2^40. So every number of a record and every sum of counts stays far within its
+/// type.
+pub(crate) const MAX_READ: u64 = 1 << 40;
 
 /// The bytes of a file header.
 const FILE_HEAD: usize = 24;
@@ -126,7 +127,7 @@ pub fn seek<S: Shelf>(
         Sought decoder.old held.old read.old decoder.new held.new read.new
         (S.told shelf.old) (S.told shelf.new) found) }
     ensures refused { IfErr result (λ e.
-        GivesError (reading_of decoder.old held.old read.old)
+        GivesError (reading_with decoder.old held.old read.old)
         (S.told shelf.old) (S.told shelf.new) e) }
     ensures head { decoder.new.summary.head ≡ decoder.old.summary.head }
     ensures read_fault { IsErrOf result ReadFault → Rose (S.faults shelf.old) (S.faults shelf.new) }
@@ -156,7 +157,7 @@ fn seek_step<S: Shelf>(
         Steps decoder.old held.old read.old decoder.new held.new read.new
         (S.told shelf.old) (S.told shelf.new) s) }
     ensures refused { IfErr result (λ e.
-        GivesError (reading_of decoder.old held.old read.old)
+        GivesError (reading_with decoder.old held.old read.old)
         (S.told shelf.old) (S.told shelf.new) e) }
     ensures head { decoder.new.summary.head ≡ decoder.old.summary.head }
     ensures read_fault { IsErrOf result ReadFault → Rose (S.faults shelf.old) (S.faults shelf.new) }
@@ -224,7 +225,7 @@ fn refill<S: Shelf>(held: &mut Held, read: &mut u64, shelf: &mut S) -> Result<bo
         return Ok(false);
     }
     *read += more as u64;
-    if *read > MOST_READ {
+    if *read > MAX_READ {
         return Err(FileError::TooLong);
     }
     Ok(true)

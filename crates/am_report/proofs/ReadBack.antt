@@ -19,8 +19,8 @@ use Rattle.am_cells.specs.Counts.{IsLawfulCell, no_packets}
 use Rattle.am_cells.specs.CellTables.{CellTable, IsCellTable, HasShape, cell_in, cell_at}
 use Rattle.am_domain.specs.Domains.{DomainValue, IsLawful}
 use Rattle.am_domain.specs.Network.{IsNumberOf}
-use Rattle.am_domain.specs.Values.{NodeValue}
-use Rattle.am_report.specs.Rows.{RowValue, column_names, row_fields, fields_line, head_line, report_line, row_at, block_rows, report_rows, report_text, node_name, no_node}
+use Rattle.am_domain.specs.Values.{NodeValue, no_node}
+use Rattle.am_report.specs.Rows.{RowValue, column_names, row_fields, fields_line, head_line, report_line, row_at, block_rows, report_rows, report_text, node_name}
 use Rattle.am_report.specs.Reports.{AreRows, IsTaken, IsOfFirstNode, IsWanted, TakesRows, IsReportOf, packets_of}
 use Rattle.am_report.proofs.ReadLemmas.{same-parts}
 use Rattle.am_report.proofs.TextLemmas.{flat-more, range-suc}

@@ -11,7 +11,8 @@ use Rattle.am_cells.specs.declared.cell.Cell.{Cell}
 use Rattle.am_cells.specs.Counts.{IsLawfulCell, no_packets}
 use Rattle.am_cells.specs.CellTables.{CellTable, IsCellTable, HasShape, cell_in}
 use Rattle.am_domain.specs.Domains.{DomainValue, IsLawful}
-use Rattle.am_report.specs.Rows.{RowValue, column_names, row_fields, fields_line, head_line, report_line, report_rows, report_text, node_name, flow_name, no_node, no_flow}
+use Rattle.am_domain.specs.Values.{no_node}
+use Rattle.am_report.specs.Rows.{RowValue, column_names, row_fields, fields_line, head_line, report_line, report_rows, report_text, node_name, flow_name, no_flow}
 use Rattle.am_report.specs.declared.read.TheConstants.{MAX_REPORT}
 use Rattle.am_report.proofs.ReadBack.{row_of, rows_of, all_rows, Written, block-fits, many-cells, wanted-here, all-read}
 

@@ -6,7 +6,8 @@ use Rattle.am_cells.specs.declared.cell.TheConstants.{MAX_COUNT}
 use Rattle.am_cells.specs.CellTables.{AddsTo, total_of}
 use Rattle.am_domain.specs.Domains.{DomainValue}
 use Rattle.am_domain.specs.Network.{IsNumberOf}
-use Rattle.am_report.specs.Rows.{RowValue, SpellsRow, node_name, no_node}
+use Rattle.am_domain.specs.Values.{no_node}
+use Rattle.am_report.specs.Rows.{RowValue, SpellsRow, node_name}
 use Rattle.am_report.specs.Reports.{IsRow, IsTaken, IsOfFirstNode, IsFlowNumber, IsWanted, KnowsNode, RefusesRow}
 use Rattle.am_report.specs.Filling.{IsFilling, IsFilled, TellsNode, TellsPair}
 use Rattle.am_report.specs.declared.filling.Filling.{Filling}

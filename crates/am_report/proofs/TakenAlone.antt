@@ -4,8 +4,8 @@ use Rattle.std.proofs.lemmas.Bool.{cases_lt}
 use Rattle.std.proofs.lemmas.Nat.{same_from_place, mul-add-lt}
 use Rattle.am_domain.specs.Domains.{DomainValue, IsLawful}
 use Rattle.am_domain.specs.Network.{IsNode, IsNoNode, IsNumberOf}
-use Rattle.am_domain.specs.Values.{NodeValue}
-use Rattle.am_report.specs.Rows.{RowValue, no_flow, no_node}
+use Rattle.am_domain.specs.Values.{NodeValue, no_node}
+use Rattle.am_report.specs.Rows.{RowValue, no_flow}
 use Rattle.am_report.specs.Reports.{IsRow, IsTaken, IsOfFirstNode, IsFlowNumber, IsWanted, RefusesRow, TakesRows}
 use Rattle.am_report.specs.declared.error.ReportError.{ReportError}
 use Rattle.am_report.specs.declared.error.ReportError.TheVariants.{BadHeader, BadRow, UnknownNode, OtherNode, UnknownFlow, NotInOrder, Short, Memory}

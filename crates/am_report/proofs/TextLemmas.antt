@@ -8,8 +8,8 @@ use Rattle.std.proofs.lemmas.Grind.{flat_map-append}
 use Rattle.am_cells.specs.CellTables.{CellTable, cell_at}
 use Rattle.am_cells.specs.declared.cell.Cell.{Cell}
 use Rattle.am_domain.specs.Domains.{DomainValue}
-use Rattle.am_domain.specs.Values.{FlowValue, NodeValue}
-use Rattle.am_report.specs.Rows.{RowValue, head_line, report_line, row_at, block_rows, report_text, node_name, flow_name, no_node, no_flow}
+use Rattle.am_domain.specs.Values.{FlowValue, NodeValue, no_node}
+use Rattle.am_report.specs.Rows.{RowValue, head_line, report_line, row_at, block_rows, report_text, node_name, flow_name, no_flow}
 
 -- one number more
 pub range-suc : (a n : ℕ) → range_with_len a (suc n) ≡ range_with_len a n ++ ((a + n) ∷ [])

@@ -6,9 +6,9 @@ use Rattle.am_report.specs.declared.error.ReportError.{ReportError}
 use Rattle.am_report.specs.declared.error.ReportError.TheVariants.{BadHeader, BadRow, UnknownNode, OtherNode, UnknownFlow, NotInOrder, Short, Memory}
 
 -- the name of the flow that the refusal names; nothing where it names none
-abbrev pub named_flow : DomainValue → ReportError → List ℕ
-named_flow d (Short flow block) = flow_name d flow
-named_flow d _ = []
+abbrev pub refused_flow : DomainValue → ReportError → List ℕ
+refused_flow d (Short flow block) = flow_name d flow
+refused_flow d _ = []
 
 -- what is said of a row
 abbrev pub words_of_row : ℕ → List ℕ → List ℕ

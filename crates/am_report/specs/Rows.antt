@@ -6,7 +6,7 @@ use Rattle.am_cells.specs.declared.cell.Cell.{Cell}
 use Rattle.am_cells.specs.Counts.{IsLawfulCell}
 use Rattle.am_cells.specs.CellTables.{CellTable, cell_at}
 use Rattle.am_domain.specs.Domains.{DomainValue}
-use Rattle.am_domain.specs.Values.{FlowValue, NodeValue}
+use Rattle.am_domain.specs.Values.{FlowValue, no_node}
 
 -- what a row says: the names of a node and a flow, a block, and the cell of the flow and block at the node
 pub record RowValue : Type 0 where
@@ -44,10 +44,7 @@ head_line = fields_line column_names
 abbrev pub report_line : RowValue → List ℕ
 report_line r = fields_line (row_fields r)
 
--- these stand for a node and a flow that the domain hasn't
-abbrev pub no_node : NodeValue
-no_node = record { name = []; capture = []; from = 0; until = 0 }
-
+-- this stands for a flow that the domain hasn't
 abbrev pub no_flow : FlowValue
 no_flow = record {
   name = [];

@@ -1,7 +1,7 @@
 //! What is said of a report that is refused.
 
 ghost use Rattle.std.specs.Prelude.{◌≡◌, Some};
-ghost use Rattle.am_report.specs.ReportTexts.{named_flow, refusal_text};
+ghost use Rattle.am_report.specs.ReportTexts.{refused_flow, refusal_text};
 
 use crate::error::ReportError;
 use am_domain::Domain;
@@ -18,7 +18,7 @@ pub struct Refusal<'a> {
 impl ReportError {
     /// The name of the flow that the refusal names; nothing where it names none.
     pub fn named_flow<'a>(&self, domain: &'a Domain) -> &'a str
-        ensures { result.now ≡ named_flow domain.now self.now }
+        ensures { result.now ≡ refused_flow domain.now self.now }
     {
         let ReportError::Short { flow, block: _ } = *self else {
             return "";

@@ -2,12 +2,12 @@
 
 ghost use Rattle.std.specs.Prelude.{◌≡◌, ℕ, ◌<◌, ◌≤◌, List, ◌++◌, Some, IfOk, OnOk, OnErr, IfErr, flat_map, length};
 ghost use Rattle.std.specs.Io.KnownBytes.{append_known};
-ghost use Rattle.am_base.specs.Sinks.{AppendsFront};
+ghost use Rattle.am_base.specs.Sinks.{AppendsFront, FaultRose};
 ghost use Rattle.am_cells.specs.CellTables.{HasShape};
 ghost use Rattle.am_domain.specs.Domains.{Reports};
 ghost use Rattle.am_report.specs.Rows.{head_line, report_line, row_at, block_rows, report_text};
 ghost use Rattle.am_report.specs.Lines.{HasLines};
-ghost use Rattle.am_report.specs.Writing.{FaultRose, MemoryKeeps};
+ghost use Rattle.am_report.specs.Writing.{MemoryKeeps};
 
 use crate::columns::COLUMNS;
 use crate::lines::{add_line, bytes_of, no_lines};

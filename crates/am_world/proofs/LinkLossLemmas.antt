@@ -9,7 +9,7 @@ use Rattle.am_domain.specs.Values.{FlowValue}
 use Rattle.am_domain.specs.Domains.{DomainValue}
 use Rattle.am_graph.specs.Lists.{list_at}
 use Rattle.am_graph.specs.Graphs.{graph_of, start_of, end_of}
-use Rattle.am_graph.specs.Clusters.{ClustersValue, AreClusters, IsChain, count_of, cluster_of}
+use Rattle.am_graph.specs.Clusters.{ClustersValue, AreClusters, IsLinkChain, count_of, cluster_of}
 use Rattle.am_meter.specs.declared.stream.Marked.{Marked}
 use Rattle.am_world.specs.declared.event.Event.{Event}
 use Rattle.am_world.specs.Events.{event_packet, events_of, is_lost, present}
@@ -91,7 +91,7 @@ module _ (d : DomainValue) (events : List Event) (link : ℕ) (ups downs : List 
 
 -- a chain of neighbours from a link that stands alone leads to itself
 alone-chained : (links : List Edge) (link : ℕ) → StandsAlone links link → (chain : List ℕ) (first last : ℕ) → first ≡ link
-    → IsChain links first chain last → last ≡ link
+    → IsLinkChain links first chain last → last ≡ link
 alone-chained links link alone [] first last is c = sym c ∙ is
 alone-chained links link alone (next ∷ rest) first last is c =
     let again : next ≡ link = elim c.1 [

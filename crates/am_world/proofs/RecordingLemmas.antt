@@ -11,7 +11,7 @@ use Rattle.am_domain.specs.Domains.{DomainValue, IsLawful}
 use Rattle.am_pcap.specs.Packets.{Packet, reading_of, word}
 use Rattle.am_pcap.specs.Captures.{IsCapture}
 use Rattle.am_pcap.specs.CaptureFiles.{is_whole}
-use Rattle.am_pcap.specs.Heads.{IsHead, half}
+use Rattle.am_pcap.specs.Heads.{IsHead, half_word}
 use Rattle.am_pcap.specs.Spelling.{FitsRecord, capture_bytes, record_bytes}
 use Rattle.am_pcap.specs.declared.frame.Frame.TheVariants.{Ip6}
 use Rattle.am_pcap.specs.declared.frame.LinkKind.TheVariants.{RawIp}
@@ -257,7 +257,7 @@ fits-sized d (x ∷ xs) sized =
 
 -- the file header is one
 pub head-is : IsHead node_head node_head.raw
-unfolding half word
+unfolding half_word word
 head-is = record { magic = refl; version = (refl, refl); link = refl; raw = refl }
 
 -- the capture is one, and records the world

@@ -15,7 +15,7 @@ use Rattle.am_opts.specs.Marking.{Marking, mark_of, data_of, IsCanonical}
 use Rattle.am_domain.specs.Values.{FlowValue}
 use Rattle.am_domain.specs.Domains.{DomainValue}
 use Rattle.am_pcap.specs.Packets.{Packet, word}
-use Rattle.am_pcap.specs.Heads.{half}
+use Rattle.am_pcap.specs.Heads.{half_word}
 use Rattle.am_pcap.specs.Spelling.{record_bytes}
 use Rattle.am_world.specs.declared.capture.Sent.{Sent}
 use Rattle.am_world.specs.declared.event.Event.{Event}
@@ -54,15 +54,15 @@ spread (suc n) (b ∷ bs) long = ap (λ xs. b ∷ xs) (spread n bs (omega (arith
 pub record IsNodeHead (raw : List ℕ) : Type 0 where
   pub bytes : (i : ℕ) → get_or raw i 0 < 256
   pub magic : take 4 raw ≡ 0x4d ∷ 0x3c ∷ 0xb2 ∷ 0xa1 ∷ []
-  pub major : half false raw 4 ≡ 2
-  pub minor : half false raw 6 ≡ 4
+  pub major : half_word false raw 4 ≡ 2
+  pub minor : half_word false raw 6 ≡ 4
   pub zone : word false raw 8 ≡ 0
   pub accuracy : word false raw 12 ≡ 0
   pub snapshot : word false raw 16 ≡ 262144
   pub link : word false raw 20 ≡ 101
 
 head-listed : (f : ℕ → ℕ) → IsNodeHead (listed 24 f) → listed 24 f ≡ node_head.raw
-unfolding half word
+unfolding half_word word
 head-listed f is =
     let e0 : f 0 ≡ 0x4d = cc (is.magic) in
     let e1 : f 1 ≡ 0x3c = cc (is.magic) in

@@ -1,6 +1,6 @@
 use Rattle.std.proofs.Common.{sym, subst, ℕ, List, [], ◌∷◌, None, Some}
 use Rattle.std.proofs.lemmas.Str.Pattern.{split_text_parts}
-use Rattle.am_addr.specs.Text.{IsShort, IsFull}
+use Rattle.am_addr.specs.Text.{IsGapped, IsFull}
 use Rattle.am_addr.proofs.Gap.{stands_full, stands_short, is_first}
 use Rattle.am_addr.proofs.address.values_in.Goals as goal
 
@@ -16,5 +16,5 @@ returns-clause-found c values s =
     let first = is_first c.args.text.now _ _ c.in-Some.ensures.cases in
     let short = stands_short c.args.text.now _ _ values split first s in
     c.short.ensures.found values
-    (subst (λ (t : List ℕ). IsShort t c.as_bytes-3.result.now values) (sym c.as_bytes-2.ensures.value)
-    (subst (λ (t : List ℕ). IsShort c.in-Some.front.now t values) (sym c.as_bytes-3.ensures.value) short))
+    (subst (λ (t : List ℕ). IsGapped t c.as_bytes-3.result.now values) (sym c.as_bytes-2.ensures.value)
+    (subst (λ (t : List ℕ). IsGapped c.in-Some.front.now t values) (sym c.as_bytes-3.ensures.value) short))

@@ -5,7 +5,7 @@ use Rattle.std.proofs.lemmas.List.Elements.{All-nil, All-push}
 use Rattle.am_ip6.specs.Chains.{Lent, Spot, first_spot, spot_after}
 use Rattle.am_ip6.specs.Marks.{IsPassed}
 use Rattle.am_ip6.specs.Shown.{lent}
-use Rattle.am_ip6.specs.Left.{left}
+use Rattle.am_ip6.specs.Left.{headers_left}
 use Rattle.am_insert.proofs.Headers.{yields-rest, yields-all, member-in, after-push, marked-from, passed-from}
 use Rattle.am_insert.proofs.Planned.{bounds, in-options}
 use Rattle.am_insert.proofs.strip.marked_by_walk.Goals as goal
@@ -20,24 +20,24 @@ loop-header-init c = record {
 
 pub mark_of_kind-requires-clause-least : goal.mark_of_kind-requires-clause-least
 mark_of_kind-requires-clause-least c =
-    let all = ap left (sym c.into_iter-header-iterator.ensures.into_iter_gives)
-    ∙ yields-rest lent left _ c.loop-header.yielded _ c.loop-header.yielded_by
+    let all = ap headers_left (sym c.into_iter-header-iterator.ensures.into_iter_gives)
+    ∙ yields-rest lent headers_left _ c.loop-header.yielded _ c.loop-header.yielded_by
     ∙ ap (λ (rest : List Lent). map lent c.loop-header.yielded ++ rest) c.in-Some.ensures.steps in
     let here = member-in c.args.bytes.now _ (map lent c.loop-header.yielded) _ (lent c.in-Some.header) c.over-header-items.ensures.headers all in
     omega (arith, (bounds c.args.bytes.now (lent c.in-Some.header) here).size)
 
 pub mark_of_kind-requires-clause-options : goal.mark_of_kind-requires-clause-options
 mark_of_kind-requires-clause-options c =
-    let all = ap left (sym c.into_iter-header-iterator.ensures.into_iter_gives)
-    ∙ yields-rest lent left _ c.loop-header.yielded _ c.loop-header.yielded_by
+    let all = ap headers_left (sym c.into_iter-header-iterator.ensures.into_iter_gives)
+    ∙ yields-rest lent headers_left _ c.loop-header.yielded _ c.loop-header.yielded_by
     ∙ ap (λ (rest : List Lent). map lent c.loop-header.yielded ++ rest) c.in-Some.ensures.steps in
     let here = member-in c.args.bytes.now _ (map lent c.loop-header.yielded) _ (lent c.in-Some.header) c.over-header-items.ensures.headers all in
     in-options c.args.bytes.now (lent c.in-Some.header) here
 
 pub returns-in-Some-mark_of_kind : goal.returns-in-Some-mark_of_kind
 returns-in-Some-mark_of_kind c = λ hs has.
-    let all = ap left (sym c.into_iter-header-iterator.ensures.into_iter_gives)
-    ∙ yields-rest lent left _ c.loop-header.yielded _ c.loop-header.yielded_by
+    let all = ap headers_left (sym c.into_iter-header-iterator.ensures.into_iter_gives)
+    ∙ yields-rest lent headers_left _ c.loop-header.yielded _ c.loop-header.yielded_by
     ∙ ap (λ (rest : List Lent). map lent c.loop-header.yielded ++ rest) c.in-Some.ensures.steps in
     marked-from c.args.bytes.now c.args.whole c.number_of-kind.result _ _ hs _ (map lent c.loop-header.yielded) _
     (c.walk_law.ensures c.args.bytes.now c.args.whole) c.over-header-items.ensures.headers has all c.loop-header.invariant.passed
@@ -60,8 +60,8 @@ loop-header-preserved c =
 
 pub returns : goal.returns
 returns c = λ hs has.
-    let all = ap left (sym c.into_iter-header-iterator.ensures.into_iter_gives)
-    ∙ yields-all lent left _ c.loop-header.yielded _ c.loop-header.yielded_by c.in-None.ensures.steps.0 in
+    let all = ap headers_left (sym c.into_iter-header-iterator.ensures.into_iter_gives)
+    ∙ yields-all lent headers_left _ c.loop-header.yielded _ c.loop-header.yielded_by c.in-None.ensures.steps.0 in
     passed-from c.args.bytes.now c.args.whole c.number_of-kind.result _ _ hs (map lent c.loop-header.yielded)
     (c.walk_law.ensures c.args.bytes.now c.args.whole) c.over-header-items.ensures.headers has all c.loop-header.invariant.passed
     c.number_of-kind.ensures

@@ -1,7 +1,7 @@
 use Rattle.std.proofs.Common.{arith, refl, subst, ◌∙◌}
 use Rattle.am_pcap.specs.Answers.{GivesEnd, GivesError}
 use Rattle.am_pcap.specs.Decoded.{Passed}
-use Rattle.am_pcap.specs.Seeking.{Found, reading_of}
+use Rattle.am_pcap.specs.Seeking.{Found, reading_with}
 use Rattle.am_pcap.proofs.Gives.{gave}
 use Rattle.am_pcap.proofs.Passing.{gave-passed}
 use Rattle.am_pcap.proofs.ReadFiles.{ends-so, stops-at}
@@ -53,7 +53,7 @@ returns-in-Ok-true g c =
 
 pub returns-in-Ok-false : goal.returns-in-Ok-false
 returns-in-Ok-false g c =
-    let end = subst (λ x. GivesEnd (reading_of x c.self.inside.held c.self.inside.read) (g.S.Shelf.told c.args.shelf.now) (g.S.Shelf.told c.seek.new.shelf))
+    let end = subst (λ x. GivesEnd (reading_with x c.self.inside.held c.self.inside.read) (g.S.Shelf.told c.args.shelf.now) (g.S.Shelf.told c.seek.new.shelf))
     c.in-None.ensures.unchanged (rw c.in-Ok-false.field-0-test at c.in-Ok-false.ensures.sought) in
     let ends = ends-so c.self.inside.decoder c.self.inside.held c.self.inside.read c.self.inside.over c.args.self.now
     (g.S.Shelf.told c.args.shelf.now) (g.S.Shelf.told c.seek.new.shelf) c.self.view_is c.requires end in (
@@ -74,7 +74,7 @@ returns-in-Ok-false g c =
 
 pub returns-in-Err : goal.returns-in-Err
 returns-in-Err g c =
-    let error = subst (λ x. GivesError (reading_of x c.self.inside.held c.self.inside.read) (g.S.Shelf.told c.args.shelf.now) (g.S.Shelf.told c.seek.new.shelf) c.in-Err.error)
+    let error = subst (λ x. GivesError (reading_with x c.self.inside.held c.self.inside.read) (g.S.Shelf.told c.args.shelf.now) (g.S.Shelf.told c.seek.new.shelf) c.in-Err.error)
     c.in-None.ensures.unchanged c.in-Err.ensures.refused in
     let stops = stops-at c.self.inside.decoder c.self.inside.held c.self.inside.read c.self.inside.over c.args.self.now
     (g.S.Shelf.told c.args.shelf.now) (g.S.Shelf.told c.seek.new.shelf) c.in-Err.error c.self.view_is c.requires error in (

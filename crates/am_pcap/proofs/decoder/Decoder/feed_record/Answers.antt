@@ -27,8 +27,8 @@ returns-then-len-lt-RECORD_HEAD-clause-took c =
     (λ (w : IsTooLong c.in-Some.head.form.big c.fill-n.new.buffer.items). omega (arith, w.head, short)))
     refl)
 
-pub returns-then-length-gt-MOST_CAPTURED-clause-refused : goal.returns-then-length-gt-MOST_CAPTURED-clause-refused
-returns-then-length-gt-MOST_CAPTURED-clause-refused c =
+pub returns-then-length-gt-MAX_CAPTURED-clause-refused : goal.returns-then-length-gt-MAX_CAPTURED-clause-refused
+returns-then-length-gt-MAX_CAPTURED-clause-refused c =
     let h = c.in-Some.head in
     let big : Bool = c.in-Some.head.form.big in
     let error : c.self.inside.error ≡ None = ap (λ d. d.summary.error) c.self.view_is ∙ c.requires.clean in
@@ -50,7 +50,7 @@ returns-then-length-gt-MOST_CAPTURED-clause-refused c =
     let kept = kept-count c.self.inside.buffer.items c.self.inside.full c.self.inside.count c.self.inside.taken c.self.invariant.partial c.self.invariant.counted in
     let n_is = front_length c.fill-n.result c.args.piece.now c.fill-n.ensures.within in
     let n_long = length-append (cond c.self.inside.full [] c.self.inside.buffer.items) (take c.fill-n.result c.args.piece.now) in
-    let many : 262144 < c.word_at-length.result = omega (arith, c.if-length-gt-MOST_CAPTURED.true) in
+    let many : 262144 < c.word_at-length.result = omega (arith, c.if-length-gt-MAX_CAPTURED.true) in
     let ends : length c.fill-n.new.buffer.items ≡ 16 = front-ends c.in-Some.head.form.big c.fill-n.new.buffer.items c.word_at-length.result front word_is many in
     let long : IsTooLong c.in-Some.head.form.big c.fill-n.new.buffer.items = record { head = there; long = omega (arith, many, word_is) } in
     rw (← c.self.view_is) (record {
@@ -97,7 +97,7 @@ invariant_of-self-then-len-end c =
     let all : c.fill-m.new.buffer.items ≡ cond c.self.inside.full [] c.self.inside.buffer.items ++ take (c.fill-n.result + c.fill-m.result) c.args.piece.now =
     after ∙ ap (λ x. x ++ take c.fill-m.result (drop c.fill-n.result c.args.piece.now)) is
     ∙ joined (cond c.self.inside.full [] c.self.inside.buffer.items) c.args.piece.now c.fill-n.result c.fill-m.result in
-    let few : c.word_at-length.result ≤ 262144 = omega (arith, c.if-length-gt-MOST_CAPTURED.false) in
+    let few : c.word_at-length.result ≤ 262144 = omega (arith, c.if-length-gt-MAX_CAPTURED.false) in
     let long : length c.fill-m.new.buffer.items ≡ length c.fill-n.new.buffer.items + c.fill-m.result = omega (arith, c.fill-m.ensures.len) in
     let n_all : length c.fill-n.new.buffer.items ≡ length (cond c.self.inside.full [] c.self.inside.buffer.items) + c.fill-n.result =
     omega (arith, ap length is, n_is, n_long) in
@@ -151,7 +151,7 @@ returns-then-len-end-clause-took c =
     let all : c.fill-m.new.buffer.items ≡ cond c.self.inside.full [] c.self.inside.buffer.items ++ take (c.fill-n.result + c.fill-m.result) c.args.piece.now =
     after ∙ ap (λ x. x ++ take c.fill-m.result (drop c.fill-n.result c.args.piece.now)) is
     ∙ joined (cond c.self.inside.full [] c.self.inside.buffer.items) c.args.piece.now c.fill-n.result c.fill-m.result in
-    let few : c.word_at-length.result ≤ 262144 = omega (arith, c.if-length-gt-MOST_CAPTURED.false) in
+    let few : c.word_at-length.result ≤ 262144 = omega (arith, c.if-length-gt-MAX_CAPTURED.false) in
     let long : length c.fill-m.new.buffer.items ≡ length c.fill-n.new.buffer.items + c.fill-m.result = omega (arith, c.fill-m.ensures.len) in
     let n_all : length c.fill-n.new.buffer.items ≡ length (cond c.self.inside.full [] c.self.inside.buffer.items) + c.fill-n.result =
     omega (arith, ap length is, n_is, n_long) in
@@ -198,7 +198,7 @@ invariant_of-self-2 c =
     let all : c.fill-m.new.buffer.items ≡ cond c.self.inside.full [] c.self.inside.buffer.items ++ take (c.fill-n.result + c.fill-m.result) c.args.piece.now =
     after ∙ ap (λ x. x ++ take c.fill-m.result (drop c.fill-n.result c.args.piece.now)) is
     ∙ joined (cond c.self.inside.full [] c.self.inside.buffer.items) c.args.piece.now c.fill-n.result c.fill-m.result in
-    let few : c.word_at-length.result ≤ 262144 = omega (arith, c.if-length-gt-MOST_CAPTURED.false) in
+    let few : c.word_at-length.result ≤ 262144 = omega (arith, c.if-length-gt-MAX_CAPTURED.false) in
     let long : length c.fill-m.new.buffer.items ≡ length c.fill-n.new.buffer.items + c.fill-m.result = omega (arith, c.fill-m.ensures.len) in
     let n_all : length c.fill-n.new.buffer.items ≡ length (cond c.self.inside.full [] c.self.inside.buffer.items) + c.fill-n.result =
     omega (arith, ap length is, n_is, n_long) in
@@ -254,7 +254,7 @@ returns-clause-took c =
     let all : c.fill-m.new.buffer.items ≡ cond c.self.inside.full [] c.self.inside.buffer.items ++ take (c.fill-n.result + c.fill-m.result) c.args.piece.now =
     after ∙ ap (λ x. x ++ take c.fill-m.result (drop c.fill-n.result c.args.piece.now)) is
     ∙ joined (cond c.self.inside.full [] c.self.inside.buffer.items) c.args.piece.now c.fill-n.result c.fill-m.result in
-    let few : c.word_at-length.result ≤ 262144 = omega (arith, c.if-length-gt-MOST_CAPTURED.false) in
+    let few : c.word_at-length.result ≤ 262144 = omega (arith, c.if-length-gt-MAX_CAPTURED.false) in
     let long : length c.fill-m.new.buffer.items ≡ length c.fill-n.new.buffer.items + c.fill-m.result = omega (arith, c.fill-m.ensures.len) in
     let n_all : length c.fill-n.new.buffer.items ≡ length (cond c.self.inside.full [] c.self.inside.buffer.items) + c.fill-n.result =
     omega (arith, ap length is, n_is, n_long) in
