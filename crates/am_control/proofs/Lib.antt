@@ -5,3 +5,4 @@ pub mod SideLemmas
 pub mod ReportLemmas
 pub mod LossLemmas
 pub mod WritingLemmas
+pub mod PassageLemmas

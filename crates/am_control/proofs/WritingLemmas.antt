@@ -7,6 +7,7 @@ use Rattle.std.proofs.lemmas.List.{append-nil, take_all, get_or_append_left, get
 use Rattle.std.proofs.lemmas.List.Concat.{flat_map-append}
 use Rattle.std.proofs.lemmas.List.Folds.{flat_map-map}
 use Rattle.std.proofs.lemmas.List.FromFn.{length-range_with_len, get_or-range_with_len, length-map-range_with_len, get_or-map-range_with_len}
+use Rattle.std.proofs.lemmas.Fmt.{decimal_digit}
 use Rattle.std.proofs.lemmas.Option.{slice_get_read}
 use Rattle.am_base.specs.Sinks.{AppendsFront, IsWrittenOf, HandsIn, BreaksOff}
 use Rattle.am_domain.specs.Values.{FlowValue}
@@ -225,3 +226,16 @@ pub rows-flat : (m : Measured) (flows : List FlowValue)
     → flat_map (loss_line flows) (loss_rows m) ≡ flat_map (λ scope. flat_map (loss_line flows) (scope_rows m scope)) (scopes (count_of m.plan.clusters))
 unfolding loss_rows
 rows-flat m flows = flat-flat (loss_line flows) (scope_rows m) (scopes (count_of m.plan.clusters))
+
+-- the digit of 0
+pub decimal-zero : decimal 0 ≡ codes "0"
+decimal-zero = decimal_digit 0 (omega arith)
+
+quiet-pieces : (block : List ℕ) → block ++ codes "," ++ codes "0" ++ codes "," ++ codes "0" ++ codes "," ++ codes "0" ++ codes "," ++ codes "0" ++ codes "," ++ codes "0" ++ codes "," ++ codes "0" ++ codes "," ++ codes "0" ++ codes "\n" ≡ block ++ codes ",0,0,0,0,0,0,0\n"
+quiet-pieces block = simp append_assoc
+
+-- the line of a row in which each number behind the block is 0
+pub quiet-rest : (r : LossRow) → r.entered ≡ 0 → r.left ≡ 0 → r.lost ≡ pos 0 → delay_text r.delay ≡ codes "0"
+    → r.d_entered ≡ 0 → r.d_left ≡ 0 → delay_text r.d_delay ≡ codes "0"
+    → line_rest r ≡ decimal r.block ++ codes ",0,0,0,0,0,0,0\n"
+quiet-rest r e l z d de dl dd = rw (e, l, z, d, de, dl, dd, decimal-zero) (quiet-pieces (decimal r.block))

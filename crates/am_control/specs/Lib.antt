@@ -2,4 +2,4 @@ pub mod Plans
 pub mod Rows
 pub mod Texts
 pub mod Controls
-pub mod Writing
+pub mod Passages

@@ -12,6 +12,7 @@ mod closed;
 mod control;
 mod error;
 mod laws;
+mod passage;
 mod row;
 mod sides;
 mod tail;

@@ -1,18 +1,18 @@
 //! The loss table as text.
 
-ghost use Rattle.std.specs.Prelude.{◌≡◌, ◌+◌, ◌-◌, ◌<◌, ◌≤◌, ◌++◌, OnOk, OnErr, IfErr, length, flat_map, vec_capacity};
+ghost use Rattle.std.specs.Prelude.{◌≡◌, ◌+◌, ◌-◌, ◌<◌, ◌≤◌, ◌++◌, ◌*◌, OnOk, OnErr, IfErr, IsTrue, length, flat_map, vec_capacity, codes, decimal};
 ghost use Rattle.std.specs.Io.KnownBytes.{append_known};
 ghost use Rattle.am_base.specs.Counts.{Rose};
-ghost use Rattle.am_base.specs.Sinks.{AppendsFront, HandsIn, BreaksOff};
+ghost use Rattle.am_base.specs.Sinks.{AppendsFront, HandsIn, BreaksOff, FaultRose};
 ghost use Rattle.am_domain.specs.Rules.{Each};
 ghost use Rattle.am_domain.specs.Texts.{IsName};
 ghost use Rattle.am_control.specs.Controls.{IsScope};
 ghost use Rattle.am_control.specs.Plans.{IsPlanOf};
 ghost use Rattle.am_control.specs.Rows.{scope_rows, loss_rows};
-ghost use Rattle.am_control.specs.Writing.{FaultRose};
 ghost use Rattle.am_control.specs.Texts.{loss_line, loss_text, line_start, line_rest, scope_text, delay_text};
 
 use crate::closed::Closed;
+use crate::passage::Passage;
 use crate::row::{LossRow, Scope};
 use crate::tail::{MAX_TAIL, Tail};
 use am_base::{Buffer, Fault, OutError, Sink};
@@ -21,6 +21,9 @@ use std::alloc::Global;
 
 /// The first line of the table: the names of its columns.
 const COLUMNS: &str = "scope,flow,block,in,out,lost,delay,din,dout,ddelay\n";
+
+/// How a line ends in which each number behind the block is 0.
+const QUIET: &str = ",0,0,0,0,0,0,0\n";
 
 /// Writes the loss table: the names of the columns, and a line for each row.
 ///
@@ -45,10 +48,20 @@ pub fn write_loss<O: Sink>(
     let Ok(mut rows) = Vec::with_capacity(alloc, (closed.end() - closed.first()) as usize) else {
         return Err(OutError::Memory);
     };
+    let Ok(mut passages) = Vec::with_capacity(alloc, closed.passages()) else {
+        return Err(OutError::Memory);
+    };
     let Ok(()) = buffer.write(out, COLUMNS.as_bytes()) else {
         return Err(OutError::Fault);
     };
-    let Ok(()) = write_rows(domain.flows(), closed, &mut rows, &mut buffer, out) else {
+    let Ok(()) = write_rows(
+        domain.flows(),
+        closed,
+        &mut passages,
+        &mut rows,
+        &mut buffer,
+        out,
+    ) else {
         return Err(OutError::Fault);
     };
     match buffer.flush(out) {
@@ -57,16 +70,20 @@ pub fn write_loss<O: Sink>(
     }
 }
 
-// Hands in the lines of all rows: those of each cluster, then of the network. There is room for the rows of a flow.
+// Hands in the lines of all rows: those of each cluster, then of the network. There is room for the passages of a scope
+// and for the rows of a flow.
 fn write_rows<O: Sink>(
     flows: &[Flow],
     closed: &Closed<'_>,
+    passages: &mut Vec<Passage>,
     rows: &mut Vec<LossRow>,
     buffer: &mut Buffer,
     out: &mut O,
 ) -> Result<(), Fault>
     requires flows { length flows.now ≡ closed.now.plan.flows }
     requires names { Each (λ f. IsName f.name) flows.now }
+    requires wide { closed.now.plan.flows * (closed.now.plan.end - closed.now.plan.first)
+        ≤ vec_capacity passages.old }
     requires room { closed.now.plan.end - closed.now.plan.first ≤ vec_capacity rows.old }
     ensures all { OnOk result (HandsIn (O.written out.old) buffer.old
         (flat_map (loss_line flows.now) (loss_rows closed.now)) (O.written out.new) buffer.new) }
@@ -76,24 +93,36 @@ fn write_rows<O: Sink>(
     ensures faults_stay { O.faults out.old ≤ O.faults out.new }
 {
     for cluster in 0..closed.clusters() {
-        let Ok(()) = write_scope(flows, closed, Scope::Cluster(cluster), rows, buffer, out) else {
+        let Ok(()) = write_scope(
+            flows,
+            closed,
+            Scope::Cluster(cluster),
+            passages,
+            rows,
+            buffer,
+            out,
+        ) else {
             return Err(Fault);
         };
     }
-    write_scope(flows, closed, Scope::Network, rows, buffer, out)
+    write_scope(flows, closed, Scope::Network, passages, rows, buffer, out)
 }
 
-// Hands in the lines of a scope's rows: those of each flow. There is room for the rows of a flow.
+// Hands in the lines of a scope's rows: those of each flow. There is room for the passages of a scope and for the rows
+// of a flow.
 fn write_scope<O: Sink>(
     flows: &[Flow],
     closed: &Closed<'_>,
     scope: Scope,
+    passages: &mut Vec<Passage>,
     rows: &mut Vec<LossRow>,
     buffer: &mut Buffer,
     out: &mut O,
 ) -> Result<(), Fault>
     requires flows { length flows.now ≡ closed.now.plan.flows }
     requires names { Each (λ f. IsName f.name) flows.now }
+    requires wide { closed.now.plan.flows * (closed.now.plan.end - closed.now.plan.first)
+        ≤ vec_capacity passages.old }
     requires room { closed.now.plan.end - closed.now.plan.first ≤ vec_capacity rows.old }
     requires scope { IsScope closed.now.plan scope }
     ensures all { OnOk result (HandsIn (O.written out.old) buffer.old
@@ -103,12 +132,14 @@ fn write_scope<O: Sink>(
         (flat_map (loss_line flows.now) (scope_rows closed.now scope)) (O.written out.new)) }
     ensures failed { OnErr result (Rose (O.faults out.old) (O.faults out.new)) }
     ensures faults_stay { O.faults out.old ≤ O.faults out.new }
+    ensures wide { vec_capacity passages.new ≡ vec_capacity passages.old }
     ensures room { vec_capacity rows.new ≡ vec_capacity rows.old }
 {
+    closed.put_passages(scope, passages);
     for flow in 0..closed.flows() {
         let mut start = Tail::new();
         put_start(&mut start, flows, scope, flow);
-        closed.put_rows(scope, flow, rows);
+        closed.put_rows(scope, flow, passages.as_slice(), rows);
         let Ok(()) = write_flow(rows.as_slice(), start.text(), buffer, out) else {
             return Err(Fault);
         };
@@ -144,7 +175,54 @@ fn write_flow<O: Sink>(
 }
 
 // Puts what stands in the line of a row behind its scope and flow.
+#[inline(always)]
 fn put_rest(tail: &mut Tail, row: &LossRow)
+    requires { length tail.old + 228 ≤ MAX_TAIL }
+    ensures text { tail.new ≡ line_rest row.now ++ tail.old }
+    ensures room { length tail.new ≤ length tail.old + 228 }
+{
+    if !is_quiet(row) {
+        return put_columns(tail, row);
+    }
+    tail.put_all(QUIET.as_bytes());
+    tail.put_number(row.block);
+}
+
+// Whether each number behind the row's block is 0, as it is of most flows and blocks of a great domain.
+#[inline(always)]
+fn is_quiet(row: &LossRow) -> bool
+    ensures { IsTrue result → line_rest row.now ≡ decimal row.now.block ++ QUIET.now }
+{
+    if row.entered != 0 || row.left != 0 || row.lost != 0 {
+        return false;
+    }
+    if row.d_entered != 0 || row.d_left != 0 {
+        return false;
+    }
+    if !is_zero(row.delay) {
+        return false;
+    }
+    is_zero(row.d_delay)
+}
+
+// Whether the delay is there, and is 0.
+#[inline(always)]
+fn is_zero(delay: Option<i128>) -> bool
+    ensures { IsTrue result → delay_text delay ≡ codes "0" }
+{
+    match delay {
+        Some(delay) => {
+            if delay != 0 {
+                return false;
+            }
+            true
+        }
+        None => false,
+    }
+}
+
+// The same of a row of any numbers.
+fn put_columns(tail: &mut Tail, row: &LossRow)
     requires { length tail.old + 228 ≤ MAX_TAIL }
     ensures text { tail.new ≡ line_rest row.now ++ tail.old }
     ensures room { length tail.new ≤ length tail.old + 228 }

@@ -36,6 +36,7 @@ loop-cluster-preserved g c =
           old (g.O.Sink.written c.loop-cluster.out) new c.args.buffer.now c.loop-cluster.buffer c.write_scope.new.buffer
           (flat_map line (scope_rows m (Cluster k))) c.loop-cluster.invariant.handed
           (cluster-at count k (omega (arith, c.clusters-cluster-end.ensures))) refl c.in-Ok.ensures.all;
+      wide = c.write_scope.ensures.wide ∙ c.loop-cluster.invariant.wide;
       room = c.write_scope.ensures.room ∙ c.loop-cluster.invariant.room;
       faults_stay = omega (arith, c.loop-cluster.invariant.faults_stay, c.write_scope.ensures.faults_stay);
     }

@@ -1,5 +1,4 @@
-use Rattle.std.proofs.Common.{◌≡◌, ◌∙◌, ◌+◌, ◌-◌, ◌∷◌, [], ◌++◌, length, ap, sym, arith}
-use Rattle.am_control.specs.Rows.{loss_row}
+use Rattle.std.proofs.Common.{◌∙◌, ◌∷◌, [], ◌++◌, length, ap, sym, arith}
 use Rattle.am_control.proofs.WritingLemmas.{flow-none, flow-some, flow-more, flow-all}
 use Rattle.am_control.proofs.closed.Closed.put_rows.Goals as goal
 
@@ -19,8 +18,8 @@ loop-block-preserved c =
     let m = c.args.self.now in
     let block = c.loop-block.block in
     record {
-      rows = c.push_reserved.ensures.items ∙ ap (λ rs. rs ++ c.row_at.result ∷ []) c.loop-block.invariant.rows
-          ∙ flow-more m c.args.scope c.args.flow block c.row_at.result (omega (arith, c.first-block.ensures)) c.row_at.ensures.value;
+      rows = c.push_reserved.ensures.items ∙ ap (λ rs. rs ++ c.row_from.result ∷ []) c.loop-block.invariant.rows
+          ∙ flow-more m c.args.scope c.args.flow block c.row_from.result (omega (arith, c.first-block.ensures)) c.row_from.ensures;
       room = c.push_reserved.ensures.capacity ∙ c.loop-block.invariant.room;
     }
 
