@@ -14,7 +14,7 @@ use Rattle.am_domain.specs.Domains.{DomainValue}
 use Rattle.am_meter.specs.declared.stream.Marked.{Marked}
 use Rattle.am_world.specs.declared.event.Event.{Event}
 use Rattle.am_sim.specs.Measuring.{CountsFirst}
-use Rattle.am_sim.specs.Simulating.{AreCellsOf, IsMeasuredOf}
+use Rattle.am_sim.specs.Simulating.{AreSimulatedCells, IsMeasuredOf}
 
 -- before the first node nothing was taken
 pub counts-none :
@@ -35,20 +35,20 @@ counts-none d events plan control planned none = record {
 more-cells :
     (d : DomainValue) (events : List Event) (i : ℕ) (taken : List (List Marked)) (cells : List CellTable) (ms : List Marked) (table : CellTable)
     → length taken ≡ i → length cells ≡ i
-    → ((node : ℕ) → node < i → AreCellsOf d events node (get_or taken node []) (get_or cells node no_table))
-    → AreCellsOf d events i ms table
+    → ((node : ℕ) → node < i → AreSimulatedCells d events node (get_or taken node []) (get_or cells node no_table))
+    → AreSimulatedCells d events i ms table
     → (node : ℕ) → node < i + 1
-    → AreCellsOf d events node (get_or (taken ++ ms ∷ []) node []) (get_or (cells ++ table ∷ []) node no_table)
+    → AreSimulatedCells d events node (get_or (taken ++ ms ∷ []) node []) (get_or (cells ++ table ∷ []) node no_table)
 more-cells d events i taken cells ms table many each have metered =
-    below_more (λ node. AreCellsOf d events node (get_or (taken ++ ms ∷ []) node []) (get_or (cells ++ table ∷ []) node no_table)) i
+    below_more (λ node. AreSimulatedCells d events node (get_or (taken ++ ms ∷ []) node []) (get_or (cells ++ table ∷ []) node no_table)) i
     (λ node h.
     let left : node < length taken = omega (arith, many, h) in
     let right : node < length cells = omega (arith, each, h) in
-    subst (λ x. AreCellsOf d events node x (get_or (cells ++ table ∷ []) node no_table)) (sym (get_or_append_left taken (ms ∷ []) [] node left))
-    (subst (λ x. AreCellsOf d events node (get_or taken node []) x) (sym (get_or_append_left cells (table ∷ []) no_table node right)) (have node h)))
+    subst (λ x. AreSimulatedCells d events node x (get_or (cells ++ table ∷ []) node no_table)) (sym (get_or_append_left taken (ms ∷ []) [] node left))
+    (subst (λ x. AreSimulatedCells d events node (get_or taken node []) x) (sym (get_or_append_left cells (table ∷ []) no_table node right)) (have node h)))
     (let there : get_or (taken ++ ms ∷ []) i [] ≡ ms = ap (λ k. get_or (taken ++ ms ∷ []) k []) (sym many) ∙ get_or-append_seam taken ms [] [] in
     let here : get_or (cells ++ table ∷ []) i no_table ≡ table = ap (λ k. get_or (cells ++ table ∷ []) k no_table) (sym each) ∙ get_or-append_seam cells table [] no_table in
-    subst (λ x. AreCellsOf d events i x (get_or (cells ++ table ∷ []) i no_table)) (sym there) (subst (λ x. AreCellsOf d events i ms x) (sym here) metered))
+    subst (λ x. AreSimulatedCells d events i x (get_or (cells ++ table ∷ []) i no_table)) (sym there) (subst (λ x. AreSimulatedCells d events i ms x) (sym here) metered))
 
 -- the reports with that of one more node
 more-reports :
@@ -68,7 +68,7 @@ more-reports n i cells table many h =
 -- one more node was taken
 pub counts-one :
     (d : DomainValue) (events : List Event) (i : ℕ) (plan : LossPlan) (old new : ControlValue) (ms : List Marked) (table : CellTable)
-    → i < length d.nodes → CountsFirst d events i plan old → AreCellsOf d events i ms table → Accepts old new i table
+    → i < length d.nodes → CountsFirst d events i plan old → AreSimulatedCells d events i ms table → Accepts old new i table
     → CountsFirst d events (i + 1) plan new
 counts-one d events i plan old new ms table h so metered accepts = record {
   taken = so.taken ++ ms ∷ [];
@@ -140,7 +140,7 @@ measured-all d events plan control m so planned measured =
       plan = subst (IsPlanOf d) (sym is) planned;
       each = ap length (sym same) ∙ so.each;
       taken = so.taken;
-      counted = subst (λ cs. (node : ℕ) → node < length d.nodes → AreCellsOf d events node (get_or so.taken node []) (get_or cs node no_table)) same so.counted;
+      counted = subst (λ cs. (node : ℕ) → node < length d.nodes → AreSimulatedCells d events node (get_or so.taken node []) (get_or cs node no_table)) same so.counted;
     }
 
 -- there is a place for the report of each node

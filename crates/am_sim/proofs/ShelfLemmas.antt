@@ -9,11 +9,11 @@ use Rattle.am_base.specs.Shelves.{Told, file_named}
 use Rattle.am_base.specs.Files.{OnFile}
 use Rattle.am_cells.specs.CellTables.{CellTable}
 use Rattle.am_domain.specs.Domains.{DomainValue}
-use Rattle.am_domain.specs.Values.{NodeValue}
+use Rattle.am_domain.specs.Values.{NodeValue, no_node}
 use Rattle.am_ip6.specs.declared.marks.Place.{Place}
 use Rattle.am_meter.specs.Marks.{JudgesMarks, MarksRefusal}
 use Rattle.am_meter.specs.Marks.MarksRefusal.{Long, BadCapture, HeadersCut as CutAt}
-use Rattle.am_meter.specs.MeteredFiles.{AreCellsOf as AreFileCells, WhyNoCells, capture_of, no_node}
+use Rattle.am_meter.specs.MeteredFiles.{AreCellsOf as AreFileCells, WhyNoCells, capture_of}
 use Rattle.am_meter.specs.declared.stream.Marked.{Marked}
 use Rattle.am_meter.specs.declared.stream.MeterError.{MeterError}
 use Rattle.am_meter.specs.declared.stream.MeterError.TheVariants.{File as OfFile, HeadersCut}

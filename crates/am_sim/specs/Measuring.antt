@@ -11,12 +11,12 @@ use Rattle.am_meter.specs.declared.stream.MeterError.TheVariants.{File, HeadersC
 use Rattle.am_pcap.specs.declared.capture.FileError.{FileError}
 use Rattle.am_pcap.specs.declared.capture.FileError.TheVariants.{Missing, ReadFault, TooLong, Bad, Memory}
 use Rattle.am_world.specs.declared.event.Event.{Event}
-use Rattle.am_sim.specs.Simulating.{AreCellsOf}
+use Rattle.am_sim.specs.Simulating.{AreSimulatedCells}
 
 -- these are the cells of the node
 pub record HasNodeCells (d : DomainValue) (events : List Event) (node : ℕ) (t : CellTable) : Type 0 where
   pub marks : List Marked
-  pub cells : AreCellsOf d events node marks t
+  pub cells : AreSimulatedCells d events node marks t
 
 -- the first so many nodes were taken
 pub record CountsFirst (d : DomainValue) (events : List Event) (count : ℕ) (plan : LossPlan) (control : ControlValue) : Type 0 where
@@ -26,7 +26,7 @@ pub record CountsFirst (d : DomainValue) (events : List Event) (count : ℕ) (pl
   pub each_taken : length taken ≡ count
   pub each : length cells ≡ count
   pub counted : (node : ℕ) → node < count
-      → AreCellsOf d events node (slice_index_or taken node []) (slice_index_or cells node no_table)
+      → AreSimulatedCells d events node (slice_index_or taken node []) (slice_index_or cells node no_table)
   pub plan_is : control.plan ≡ plan
   pub reports : control.reports ≡ map (λ t. Some t) cells ++ replicate (length d.nodes - count) None
 

@@ -22,7 +22,7 @@ use Rattle.am_sim.specs.declared.row.SimRow.{SimRow}
 
 -- these are the marked records of the capture that the node takes of the world, and they record it; and these are the
 -- cells over them
-pub record AreCellsOf (d : DomainValue) (events : List Event) (node : ℕ) (ms : List Marked) (t : CellTable) : Type 0 where
+pub record AreSimulatedCells (d : DomainValue) (events : List Event) (node : ℕ) (ms : List Marked) (t : CellTable) : Type 0 where
   pub judged : JudgesMarks d.kind (node_capture d events node) (Ok ms)
   pub records : Records d events node ms
   pub metered : AreMetered d node ms t
@@ -33,7 +33,7 @@ pub record IsMeasuredOf (d : DomainValue) (events : List Event) (m : Measured) :
   pub each : length m.cells ≡ length d.nodes
   pub taken : List (List Marked)
   pub counted : (node : ℕ) → node < length d.nodes
-      → AreCellsOf d events node (slice_index_or taken node []) (slice_index_or m.cells node no_table)
+      → AreSimulatedCells d events node (slice_index_or taken node []) (slice_index_or m.cells node no_table)
 
 -- how many packets of the flow and the block are dropped in the scope: in a cluster, or in all of them
 abbrev pub dropped_of : DomainValue → ClustersValue → List Event → Scope → ℕ → ℕ → ℕ

@@ -3,9 +3,9 @@
 ghost use Rattle.std.specs.Prelude.{◌≡◌, ◌≤◌, ◌++◌, OnOk, OnErr, IfOk, IfErr, codes, decimal, string_bytes};
 ghost use Rattle.std.specs.Fmt.{signed_decimal};
 ghost use Rattle.std.specs.Io.KnownBytes.{append_known};
-ghost use Rattle.am_base.specs.Sinks.{AppendsFront};
+ghost use Rattle.am_base.specs.Sinks.{AppendsFront, FaultRose};
+ghost use Rattle.am_base.specs.declared.sink.OutError.TheVariants.{Memory};
 ghost use Rattle.am_control.specs.Texts.{scope_text};
-ghost use Rattle.am_control.specs.Writing.{FaultRose};
 ghost use Rattle.am_sim.specs.Texts.{sim_line, sim_text};
 
 use crate::row::SimRow;
@@ -19,13 +19,15 @@ const COLUMNS: &str = "cluster,true,reported,cells,equal\n";
 
 /// Writes what was compared: the names of the columns, and a line for each row.
 ///
-/// `Fault`: the sink failed. After a refusal a front of the text was appended.
+/// `Fault`: the sink failed; a front of the text was appended. After `Memory` nothing was.
 pub fn write_simulated<O: Sink>(alloc: Global, rows: &[SimRow], out: &mut O) -> Result<(), OutError>
     ensures all { OnOk result
         (O.written out.new ≡ append_known (O.written out.old) (sim_text rows.now)) }
     ensures front { OnErr result
         (AppendsFront (O.written out.old) (O.written out.new) (sim_text rows.now)) }
     ensures failed { IfErr result (λ e. FaultRose e (O.faults out.old) (O.faults out.new)) }
+    ensures memory { IfErr result (λ e.
+        e ≡ Memory → O.written out.new ≡ O.written out.old) }
     ensures faults_stay { O.faults out.old ≤ O.faults out.new }
 {
     let Ok(text) = text_of(alloc, rows) else {
