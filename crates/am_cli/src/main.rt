@@ -1,25 +1,14 @@
 //! The program `altmark`: packet loss of IPv6 flows, measured over live traffic by the Alternate-Marking Method (RFC
 //! 9341), from marks that packets carry in the AltMark Option (RFC 9343).
 //!
-//! [`run`] does all that the program does, over a shelf of files and two sinks. `main` hands it the real ones.
+//! [`run`] of am_run does all that the program does, over a shelf of files and two sinks. `main` hands it the real ones.
 #![tactic(auto)]
 
-mod answer;
-mod commands;
-mod counting;
-mod inputs;
-mod laws;
-mod printing;
-mod rewriting;
-mod run;
-mod table;
-mod tail;
 #[cfg(test)]
 mod tests;
-mod words;
 
 use am_base::{DiskShelf, StdSink};
-pub use run::run;
+pub use am_run::run::run;
 use std::alloc::Global;
 use std::env;
 use std::io::ErrorKind;

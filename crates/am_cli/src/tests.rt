@@ -1,6 +1,6 @@
 // Whole runs over files in memory. What they print is worked out by hand.
-use crate::run::run;
 use am_base::{MemShelf, MemSink};
+use am_run::run::run;
 use std::alloc::{AllocError, Global};
 use std::process::Abort;
 
@@ -12,6 +12,7 @@ mod loss;
 mod mark;
 mod meter;
 mod show;
+mod sim;
 mod words;
 
 // A packet that was seen: seconds, microseconds, and the four bytes of its mark.

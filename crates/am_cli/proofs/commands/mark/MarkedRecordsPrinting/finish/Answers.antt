@@ -1,9 +1,0 @@
--- Nothing stands behind all records.
-use Rattle.std.proofs.Common.{sym, [], append-nil}
-use Rattle.am_cli.specs.commands.Mark.{marked_records}
-use Rattle.am_cli.proofs.StreamLemmas.{all-behind}
-use Rattle.am_cli.proofs.commands.mark.MarkedRecordsPrinting.finish.Goals as goal
-
-pub returns-clause-rest : goal.returns-clause-rest
-returns-clause-rest c =
-    ([], sym (append-nil c.args._held.now.items), λ ps text known is. all-behind (marked_records c.args.self.now.domain.now) c.args._head.now ps text is)
