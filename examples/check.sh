@@ -452,6 +452,64 @@ if [[ $(parallel --version 2>/dev/null) == 'GNU parallel'* ]]; then
 else
     echo "skipped: twelve points as jobs: GNU parallel isn't installed"
 fi
+
+# The worlds that `sim` makes from numbers. make/world.py makes the same, and counts what they drop. No capture is opened.
+mkdir "$scratch/sim"
+cp "$here"/{two/two,twelve/twelve,plan/tight}.toml "$scratch/sim"
+cd -- "$scratch/sim" || exit 1
+sim_line=cluster,true,reported,cells,equal
+expect_file 'check plan/tight.toml' 0 "$here/plan/tight.check" '' check tight.toml
+expect 'sim, no packets' 0 $sim_line$'\n0,0,0,3,3\nnetwork,0,0,3,3' '' sim two.toml 7 0
+for name in twelve tight; do
+    python3 "$here/make/world.py" $name.toml 7 20000 --sim >$name.sim
+    tally "bytes of plan/$name.sim" "$(cmp -s $name.sim "$here/plan/$name.sim" && echo yes)"
+    expect_file "sim plan/$name" 0 "$here/plan/$name.sim" '' sim $name.toml 7 20000
+done
+sed 's/v\.pcap/u.pcap/' two.toml >one-name.toml
+sed 's/^place = .*/place = "destination"/' two.toml >destination.toml
+sed 's/^block_ns = .*/block_ns = 402000002/' tight.toml >tighter.toml
+{ cat two.toml && printf '\n[[link]]\nfrom = "b"\nto = "a"\n'; } >no-entry.toml
+for words in 'one-name.toml 7 1000' 'destination.toml 7 1000' 'tighter.toml 7 20000' 'no-entry.toml 7 1000' \
+    'two.toml 18446744073709551615 1000' 'two.toml 0 1' 'twelve.toml 7 200000'; do
+    read -ra split <<<"$words"
+    python3 "$here/make/world.py" "${split[@]}" --sim >wanted.sim
+    expect_file "sim $words" 0 wanted.sim '' sim "${split[@]}"
+done
+# In each line true is reported and equal is cells, as many packets as there may be.
+"$altmark" sim two.toml 7 1000000 </dev/null >stdout 2>stderr
+got=$?
+lines=$(awk -F, 'NR > 1 && $2 > 0 && $2 == $3 && $4 == 3 && $5 == 3' stdout | wc -l)
+tally 'sim, 1000000 packets' "$([[ $got == 0 && $lines == 2 && $(wc -l <stdout) == 3 && ! -s stderr ]] && echo yes)" "status $got, $lines lines"
+sed 's/^block_ns = .*/block_ns = 402000000/' tight.toml >refused.toml
+expect 'sim, a refused domain' 3 '' 'altmark: domain: guard 201000000 is not below half 201000000' sim refused.toml 7 0
+expect 'sim, a missing domain' 4 '' 'altmark: no.toml: missing' sim no.toml 7 0
+expect 'sim, a folder as the domain' 5 '' 'altmark: ../sim: read fault' sim ../sim 7 0
+expect 'sim, a capture as the domain' 3 '' 'altmark: domain: not TOML' sim "$here/two/u.pcap" 7 0
+# The captures of such a world give one loss table with 1, 2 and 64 workers. It adds up to what the script counts and `sim`
+# prints.
+python3 "$here/make/world.py" twelve.toml 7 20000 world
+cd world || exit 1
+for workers in 1 2 64; do
+    sed "s/^workers = .*/workers = $workers/" ../twelve.toml >workers.toml
+    expect_file "sim, $workers workers" 0 "$here/plan/twelve.sim" '' sim workers.toml 7 20000
+    if [[ $workers == 1 ]]; then
+        "$altmark" audit workers.toml </dev/null >world.audit 2>stderr
+        tally 'audit, a world of 20000 packets' "$([[ $? == 0 && ! -s stderr && $(wc -l <world.audit) == 541 ]] && echo yes)"
+    else
+        expect_file "audit, a world of 20000 packets, $workers workers" 0 world.audit '' audit workers.toml
+    fi
+done
+awk -F, 'NR > 1 { n[$1] += $6 } END { for (s in n) print s "," n[s] }' world.audit | LC_ALL=C sort >losses
+python3 "$here/make/world.py" ../twelve.toml 7 20000 --drops >drops
+tally 'audit, the drops of a world' "$(cmp -s losses drops && echo yes)" "$(diff losses drops | head -c 200 | tr '\n' '|')"
+tally 'audit and sim of a world' "$(awk -F, 'NR > 1 { print $1 "," $3 }' "$here/plan/twelve.sim" | cmp -s - losses && echo yes)"
+# Clocks that are further off than the plan says: there are losses below 0 without room, and none with it.
+for name in tight:60 twelve:0; do
+    sed 's/^skew_ns = .*/skew_ns = 20000000/' "../${name%:*}.toml" >off.toml
+    python3 "$here/make/world.py" off.toml 7 20000 .
+    below=$("$altmark" audit "../${name%:*}.toml" </dev/null | awk -F, '$6 < 0' | wc -l)
+    tally "audit by ${name%:*}.toml, clocks that are off" "$([[ $below == "${name#*:}" ]] && echo yes)" "$below"
+done
 cd -- "$here/two" || exit 1
 
 # Words that are no command.
@@ -509,6 +567,21 @@ refuses 'loss, a report with U+001F' loss two.toml a.csv $'b\x1f.csv'
 refuses 'loss, a report with U+007F' loss two.toml a.csv $'b\x7f.csv'
 expect 'loss, a word that is no text' 2 '' '' loss two.toml a.csv $'b\xff.csv'
 expect 'loss, a name of 255 bytes' 4 '' "altmark: $long: missing" loss two.toml a.csv "$long"
+for words in sim 'sim two.toml' 'sim two.toml 7' 'sim two.toml 7 0 0' 'Sim two.toml 7 0' 'sims two.toml 7 0' 'two.toml sim 7 0' 'sim 7 0 two.toml'; do
+    read -ra split <<<"$words"
+    refuses "'$words'" "${split[@]}"
+done
+for number in 18446744073709551616 340282366920938463463374607431768211456 +7 -7 07 7.0 0x7 ' 7' ''; do
+    refuses "sim, number '$number'" sim two.toml "$number" 0
+done
+for packets in 1000001 4294967296 18446744073709551616 340282366920938463463374607431768211456 +1 -1 01 1e3 '1 ' ''; do
+    refuses "sim, packets '$packets'" sim two.toml 7 "$packets"
+done
+refuses 'sim, too many packets of a missing domain' sim no.toml 7 1000001
+refuses 'sim, an empty name' sim '' 7 0
+refuses 'sim, a name of 256 bytes' sim "a$long" 7 0
+refuses 'sim, a name with a line feed' sim $'two\n.toml' 7 0
+expect 'sim, a word that is no text' 2 '' '' sim two.toml $'7\xff' 0
 refuses 'audit, an empty name' audit ''
 refuses 'audit, a name of 256 bytes' audit "a$long"
 refuses 'audit, a name with a line feed' audit $'two\n.toml'
@@ -785,6 +858,9 @@ if [[ -c /dev/full && -w /dev/full ]]; then
     to_full 'check to a full device, as many of each as there may be' 6 'altmark: write fault' check most.toml
     to_full 'check to a full device, refused' 3 'altmark: domain: too many cells: 65536' check cells.toml
     to_full 'check to a full device, missing' 4 'altmark: missing.toml: missing' check missing.toml
+    to_full 'sim to a full device' 6 'altmark: write fault' sim "$here/two/two.toml" 7 0
+    to_full 'sim to a full device, refused' 3 'altmark: domain: too many cells: 65536' sim cells.toml 7 0
+    to_full 'sim to a full device, missing' 4 'altmark: missing.toml: missing' sim missing.toml 7 0
     # So do `meter` and `audit`, and not before the last capture was read.
     cp "$here/two/two.toml" "${two[@]}" "$scratch/audit"
     cd -- "$scratch/audit" || exit 1
