@@ -1,6 +1,6 @@
 //! Masks: how many of an address's first bits count, made ready to clear the others of many addresses.
 
-ghost use Rattle.std.specs.Prelude.{◌≡◌, ℕ, ◌≤◌, nat_eq};
+ghost use Rattle.std.specs.Prelude.{◌≡◌, ◌↔◌, ℕ, ◌≤◌, IsTrue, nat_eq};
 ghost use Rattle.std.specs.Cmp;
 ghost use Rattle.std.specs.Cmp.{nat_eq_equiv};
 ghost use Rattle.am_addr.specs.Bits.{cleared, kept, ones};
@@ -59,6 +59,14 @@ impl Mask {
         self.count
     }
 
+    /// Whether the address with each bit that doesn't count set to 0 is this one.
+    #[inline(always)]
+    pub(crate) fn clears_to(&self, addr: &Addr, base: &Addr) -> bool
+        ensures { IsTrue result ↔ cleared self.now addr.now.0 ≡ base.now.0 }
+    {
+        are_same(&both(&addr.0, &self.bits), &base.0)
+    }
+
     /// The address with each bit that doesn't count set to 0.
     pub fn clear(&self, addr: &Addr) -> Addr
         ensures { result.0 ≡ cleared self.now addr.now.0 }
@@ -76,6 +84,20 @@ fn both(bytes: &[u8; 16], bits: &[u8; 16]) -> [u8; 16]
         kept[i] = bytes[i] & bits[i];
     }
     kept
+}
+
+// Whether the bytes are the same. All are looked at, which a compiler turns into one look.
+#[inline(always)]
+fn are_same(bytes: &[u8; 16], others: &[u8; 16]) -> bool
+    ensures { IsTrue result ↔ bytes.now ≡ others.now }
+{
+    let mut same = true;
+    for i in 0..16 {
+        if bytes[i] != others[i] {
+            same = false;
+        }
+    }
+    same
 }
 
 // The address with each bit past this many set to 0.

@@ -62,7 +62,7 @@ impl Prefix {
     pub fn holds(&self, addr: &Addr) -> bool
         ensures { IsTrue result ↔ BeginAlike self.now.length addr.now.0 self.now.bytes }
     {
-        self.mask.clear(addr) == self.base
+        self.mask.clears_to(addr, &self.base)
     }
 
     /// The first address of the prefix: its bits, and 0 for each further one.

@@ -100,6 +100,7 @@ impl Edit {
     }
 
     /// The same of a packet that begins at this place of the bytes, behind those before it, which stay as they are.
+    #[inline(always)]
     pub fn append_behind(&self, bytes: &[u8], at: usize, list: &mut Vec<u8>)
         requires within { at ≤ length bytes.now }
         requires edit { IsEditOf self.now (drop at bytes.now) }
@@ -126,6 +127,7 @@ impl Edit {
 }
 
 // Appends bytes for which the list has room.
+#[inline(always)]
 fn push_all(list: &mut Vec<u8>, bytes: &[u8])
     requires { vec_len list.old + length bytes.now ≤ vec_capacity list.old }
     ensures items { list.new.items ≡ list.old.items ++ bytes.now }
@@ -138,6 +140,7 @@ fn push_all(list: &mut Vec<u8>, bytes: &[u8])
 }
 
 // Appends the bytes as they are where eight come in at this place or go out there.
+#[inline(always)]
 fn push_moved(list: &mut Vec<u8>, bytes: &[u8], place: usize, eight: &Option<[u8; MOVED]>)
     requires within { goes_on place eight.now ≤ length bytes.now }
     requires room { vec_len list.old + length bytes.now + 8 ≤ vec_capacity list.old }
@@ -154,6 +157,7 @@ fn push_moved(list: &mut Vec<u8>, bytes: &[u8], place: usize, eight: &Option<[u8
 }
 
 // Appends the bytes with these eight put in at a place.
+#[inline(always)]
 fn push_with(list: &mut Vec<u8>, bytes: &[u8], place: usize, eight: &[u8; MOVED])
     requires within { place ≤ length bytes.now }
     requires room { vec_len list.old + length bytes.now + 8 ≤ vec_capacity list.old }
@@ -166,6 +170,7 @@ fn push_with(list: &mut Vec<u8>, bytes: &[u8], place: usize, eight: &[u8; MOVED]
 
 // Appends the bytes before the place, and behind them these eight. Where eight bytes are behind the place, they are copied
 // with what is before it, and then written over, which saves a copy.
+#[inline(always)]
 fn push_front(list: &mut Vec<u8>, bytes: &[u8], place: usize, eight: &[u8; MOVED])
     requires within { place ≤ length bytes.now }
     requires room { vec_len list.old + place + 8 ≤ vec_capacity list.old }
