@@ -1,15 +1,13 @@
 -- What a decoder stands for after it took bytes, from what became of its parts.
-use Rattle.std.proofs.Common.{arith, refl, sym, ap, subst, ◌∙◌, ◌≡◌, ℕ, ◌+◌, ◌<◌, ◌≤◌, Bool, true, false, List, [], cond, ◌∷◌, ◌++◌, length, take, drop, Option, Some, None, append_assoc, ◌⊎◌, inl, inr, ◌-◌, ◌*◌}
-use Rattle.std.proofs.lemmas.List.{length-append, length-take, length-drop, append-nil}
-use Rattle.std.proofs.lemmas.Bool.{cases_lt}
+use Rattle.std.proofs.Common.{arith, refl, sym, ap, subst, ◌∙◌, ◌≡◌, ℕ, ◌+◌, ◌≤◌, Bool, true, false, List, [], ◌∷◌, ◌++◌, length, take, drop, Option, Some, None, append_assoc}
+use Rattle.std.proofs.lemmas.List.{length-take, length-drop}
 use Rattle.std.proofs.Math.Seq.{take-add}
-use Rattle.am_pcap.specs.Packets.{word, Packet, IsWhole, first_packet, most_captured}
+use Rattle.am_pcap.specs.Packets.{word, Packet, IsWhole, first_packet}
 use Rattle.am_pcap.specs.Heads.{IsHead, IsRefusedHead}
-use Rattle.am_pcap.specs.Captures.{Summary, HasSummary, IsSplit, IsTooLong, IsRecordError}
-use Rattle.am_pcap.specs.Decoded.{Decoded, IsLast, StandsFor, Took, Refused, shown, waiting_packet}
+use Rattle.am_pcap.specs.Captures.{Summary, HasSummary, IsSplit, IsRecordError}
+use Rattle.am_pcap.specs.Decoded.{Decoded, IsLast, StandsFor, Took, Refused, shown}
 use Rattle.am_pcap.specs.declared.refusal.CapError.{CapError}
 use Rattle.am_pcap.specs.declared.head.Head.{Head}
-use Rattle.am_pcap.proofs.Splitting.{word-append}
 use Rattle.am_pcap.proofs.Steps.{head-refused, head-taken, record-grows, record-added}
 use Rattle.am_pcap.proofs.Summaries.{same_parts}
 
@@ -149,36 +147,10 @@ took-both a b c piece n m p q =
           subst (λ x. StandsFor c (bytes ++ x)) (sym e) three;
     }
 
--- a record that isn't whole yet behind its header: how long it is to be, and that it isn't too long
-pub record Part (big : Bool) (buffer : List ℕ) : Type 0 where
-  pub bounds : (word big buffer 8 ≤ most_captured) × (length buffer < 16 + word big buffer 8)
-  pub stuck : IsWhole big buffer → ⊥
-  pub fits : IsTooLong big buffer → ⊥
-
-pub part-is :
-    (big : Bool) (front more : List ℕ) (w : ℕ) → 16 ≤ length front → w ≡ word big front 8 → w ≤ most_captured
-    → length (front ++ more) < 16 + w → Part big (front ++ more)
-part-is big front more w head is few short =
-    let e : word big (front ++ more) 8 ≡ word big front 8 = word-append big front more 8 (omega (arith, head)) in
-    record {
-      bounds = (omega (arith, e, is, few), omega (arith, e, is, short));
-      stuck = λ (v : IsWhole big (front ++ more)). omega (arith, v.body, e, is, short);
-      fits = λ (v : IsTooLong big (front ++ more)). omega (arith, v.long, e, is, few);
-    }
-
+-- a record that is whole, and nothing else
 pub record Whole (big : Bool) (buffer : List ℕ) : Type 0 where
   pub whole : IsWhole big buffer
   pub ends : length buffer ≡ 16 + word big buffer 8
-
-pub whole-is :
-    (big : Bool) (front more : List ℕ) (w : ℕ) → 16 ≤ length front → w ≡ word big front 8 → w ≤ most_captured
-    → length (front ++ more) ≡ 16 + w → Whole big (front ++ more)
-whole-is big front more w head is few long =
-    let e : word big (front ++ more) 8 ≡ word big front 8 = word-append big front more 8 (omega (arith, head)) in
-    record {
-      whole = record { head = omega (arith, head, length-append front more); not_long = omega (arith, e, is, few); body = omega (arith, e, is, long) };
-      ends = omega (arith, e, is, long);
-    }
 
 -- bytes behind the file header's first ones
 pub shown-head :
@@ -211,116 +183,6 @@ shown-bad_head b None None count taken false waiting piece n e after e1 e2 e3 wi
   waiting = refl;
   same = refl;
 }
-
--- bytes of a record that isn't whole then
-pub shown-part :
-    (b : List ℕ) (head : Option Head) (error : Option CapError) (count taken : ℕ) (full waiting : Bool) (piece : List ℕ) (n : ℕ) (h : Head)
-    (after : List ℕ) (now : Option CapError) (total : ℕ)
-    → head ≡ Some h → waiting_packet head b waiting ≡ None → n ≤ length piece → after ≡ cond full [] b ++ take n piece
-    → (IsWhole h.form.big after → ⊥) → IsRecordError h.form.big (count + 1) after now → total ≡ taken + n
-    → Took (shown b head error count taken full waiting) (shown after head now count total false waiting) piece n
-shown-part b None error count taken full waiting piece n h after now total e1 e2 within is stuck refused t = absurd (cc (e1))
-shown-part b (Some k) error count taken full true piece n h after now total e1 e2 within is stuck refused t = absurd (cc (e2))
-shown-part b (Some k) error count taken full false piece n h after now total e1 e2 within is stuck refused t =
-    let same : h ≡ k = cc (e1) in
-    let a : IsWhole k.form.big (cond full [] b ++ take n piece) → ⊥ =
-    subst (λ x. IsWhole k.form.big x → ⊥) is (subst (λ x. IsWhole x.form.big after → ⊥) same stuck) in
-    let r : IsRecordError k.form.big (count + 1) (cond full [] b ++ take n piece) now =
-    subst (λ x. IsRecordError k.form.big (count + 1) x now) is (subst (λ x. IsRecordError x.form.big (count + 1) after now) same refused) in
-    took-part (shown b (Some k) error count taken full false) (shown after (Some k) now count total false false) piece n k now
-    within refl a r (record { head = refl; count = refl; unfinished = is; taken = t; error = refl }) refl
-
--- bytes to the end of a record
-pub shown-record :
-    (b : List ℕ) (head : Option Head) (error : Option CapError) (count taken : ℕ) (full waiting : Bool) (piece : List ℕ) (n : ℕ) (h : Head)
-    (after : List ℕ) (total : ℕ)
-    → head ≡ Some h → error ≡ None → n ≤ length piece → after ≡ cond full [] b ++ take n piece
-    → Whole h.form.big after → total ≡ taken + n
-    → Took (shown b head error count taken full waiting) (shown after head error (count + 1) total true true) piece n
-shown-record b None error count taken full waiting piece n h after total e1 e2 within is whole t = absurd (cc (e1))
-shown-record b (Some k) (Some d) count taken full waiting piece n h after total e1 e2 within is whole t = absurd (cc (e2))
-shown-record b (Some k) None count taken full waiting piece n h after total e1 e2 within is whole t =
-    let same : h ≡ k = cc (e1) in
-    let w : Whole k.form.big (cond full [] b ++ take n piece) =
-    subst (λ x. Whole k.form.big x) is (subst (λ x. Whole x.form.big after) same whole) in
-    let p : Some (first_packet k.form.big after) ≡ Some (first_packet k.form.big (cond full [] b ++ take n piece)) =
-    ap (λ x. Some (first_packet k.form.big x)) is in
-    took-record (shown b (Some k) None count taken full waiting) (shown after (Some k) None (count + 1) total true true) piece n k
-    within refl w.whole w.ends (record { head = refl; count = refl; unfinished = refl; taken = t; error = refl }) p
-
--- two fronts of a piece, one behind the other
-pub joined : (u piece : List ℕ) (n m : ℕ) → (u ++ take n piece) ++ take m (drop n piece) ≡ u ++ take (n + m) piece
-joined u piece n m =
-    let e : take (n + m) piece ≡ take n piece ++ take m (drop n piece) = take-add n m piece in
-    append_assoc u (take n piece) (take m (drop n piece)) ∙ sym (ap (λ x. u ++ x) e)
-
--- what is unfinished: the buffer, unless it holds a record that is whole
-pub kept-part :
-    (big : Bool) (b : List ℕ) (full : Bool)
-    → (full ≡ false → 16 ≤ length b → (word big b 8 ≤ most_captured) × (length b < 16 + word big b 8))
-    → 16 ≤ length (cond full [] b) → (word big (cond full [] b) 8 ≤ most_captured) × (length (cond full [] b) < 16 + word big (cond full [] b) 8)
-kept-part big b true p h = absurd (omega (arith, h))
-kept-part big b false p h = p refl h
-
-pub kept-count :
-    (b : List ℕ) (full : Bool) (count taken : ℕ) → (full ≡ false → 16 * count + length b ≤ taken) → 16 * count ≤ taken
-    → 16 * count + length (cond full [] b) ≤ taken
-kept-count b true count taken p h = omega (arith, h)
-kept-count b false count taken p h = p refl
-
-pub waits-not :
-    (head : Option Head) (b : List ℕ) (waiting : Bool) (h : Head) → head ≡ Some h → waiting_packet head b waiting ≡ None → waiting ≡ true → false ≡ true
-waits-not None b waiting h e w t = absurd (cc (e))
-waits-not (Some k) b true h e w t = absurd (cc (w))
-waits-not (Some k) b false h e w t = t
-
--- with the header of a record there, the buffer is exactly that, or what it was before
-pub front-is :
-    (big : Bool) (u piece : List ℕ) (n : ℕ) (after : List ℕ) → after ≡ u ++ take n piece → n ≤ 16 - length u → n ≤ length piece
-    → (16 ≤ length u → (word big u 8 ≤ most_captured) × (length u < 16 + word big u 8)) → 16 ≤ length after
-    → (length after ≡ 16) ⊎ ((word big after 8 ≤ most_captured) × (length after < 16 + word big after 8))
-front-is big u piece n after is most within kept head = elim (cases_lt (length u) 16) [
-  | inl few ↦ inl (omega (arith, few, most, head, ap length is, length-append u (take n piece), front_length n piece within))
-  | inr many ↦
-      let none : n ≡ 0 = omega (arith, many, most) in
-      let e : take n piece ≡ [] = ap (λ m. take m piece) none in
-      let same : u ≡ after = sym (is ∙ ap (λ x. u ++ x) e ∙ append-nil u) in
-      inr (subst (λ x. (word big x 8 ≤ most_captured) × (length x < 16 + word big x 8)) same (kept many))
-]
-
-pub front-ends :
-    (big : Bool) (after : List ℕ) (w : ℕ) → (length after ≡ 16) ⊎ ((word big after 8 ≤ most_captured) × (length after < 16 + word big after 8))
-    → w ≡ word big after 8 → most_captured < w → length after ≡ 16
-front-ends big after w (inl e) is many = e
-front-ends big after w (inr p) is many = absurd (omega (arith, p.0, is, many))
-
-pub front-fits :
-    (big : Bool) (after : List ℕ) (w : ℕ) → (length after ≡ 16) ⊎ ((word big after 8 ≤ most_captured) × (length after < 16 + word big after 8))
-    → w ≡ word big after 8 → length after ≤ 16 + w
-front-fits big after w (inl e) is = omega (arith, e)
-front-fits big after w (inr p) is = omega (arith, p.1, is)
-
--- the same of the head that the decoder keeps
-pub bounds-at :
-    (head : Option Head) (h : Head) (b : List ℕ) → head ≡ Some h → Part h.form.big b → (k : Head) → head ≡ Some k
-    → (word k.form.big b 8 ≤ most_captured) × (length b < 16 + word k.form.big b 8)
-bounds-at head h b e p k f =
-    let same : h ≡ k = cc (e, f) in
-    subst (λ x. (word x.form.big b 8 ≤ most_captured) × (length b < 16 + word x.form.big b 8)) same p.bounds
-
-pub whole-at :
-    (head : Option Head) (h : Head) (b : List ℕ) → head ≡ Some h → Whole h.form.big b → (k : Head) → head ≡ Some k
-    → IsWhole k.form.big b × (length b ≡ 16 + word k.form.big b 8)
-whole-at head h b e p k f =
-    let same : h ≡ k = cc (e, f) in
-    subst (λ x. IsWhole x.form.big b × (length b ≡ 16 + word x.form.big b 8)) same (p.whole, p.ends)
-
--- nothing waits, whatever the buffer holds
-pub still-none :
-    (head : Option Head) (b after : List ℕ) (waiting : Bool) → waiting_packet head b waiting ≡ None → waiting_packet head after waiting ≡ None
-still-none None b after waiting w = refl
-still-none (Some k) b after true w = absurd (cc (w))
-still-none (Some k) b after false w = refl
 
 -- a refusal behind bytes that were taken
 pub refused-both :

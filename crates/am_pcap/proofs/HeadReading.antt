@@ -1,5 +1,5 @@
 -- How a capture comes to its file header, step by step.
-use Rattle.std.proofs.Common.{arith, refl, sym, ap, subst, ◌∙◌, ◌≡◌, ℕ, ◌+◌, ◌<◌, ◌≤◌, Bool, List, [], ◌∷◌, ◌++◌, length, take, drop, Option, Some, None, append_assoc, inl, inr}
+use Rattle.std.proofs.Common.{arith, refl, sym, ap, subst, ◌∙◌, ◌≡◌, ℕ, ◌+◌, ◌<◌, ◌≤◌, Bool, false, List, [], ◌∷◌, ◌++◌, length, take, drop, Option, Some, None, append_assoc, inl, inr}
 use Rattle.std.proofs.lemmas.List.{length-append, append-nil, take-append-drop, take-append-le, length-drop, length-take}
 use Rattle.std.proofs.lemmas.Bool.{cases_lt}
 use Rattle.std.specs.Prelude.{IsSome, min}
@@ -8,9 +8,10 @@ use Rattle.am_pcap.specs.Packets.{Packet, IsWhole, HoldsPackets}
 use Rattle.am_pcap.specs.Heads.{IsRefusedHead}
 use Rattle.am_pcap.specs.Captures.{Summary, HasSummary, IsTooLong}
 use Rattle.am_pcap.specs.Decoded.{Decoded, Took, Refused, Counts, nothing_taken}
-use Rattle.am_pcap.specs.Readings.{IsCut, most_read}
+use Rattle.am_pcap.specs.Readings.{Reading, IsCut}
+use Rattle.am_pcap.specs.declared.seeking.TheConstants.{MAX_READ}
 use Rattle.am_pcap.specs.CaptureFiles.{ReadsOn, RefusesOpen, IsRefusedHeader, WhyNotOpened}
-use Rattle.am_pcap.specs.Seeking.{WereRead, HeadUnread, HeadFed, HeadBad, HeadFound, HeadGrown, HeadFault, HeadRefused, HeadFails, waiting_packets, reading_with}
+use Rattle.am_pcap.specs.Seeking.{WereRead, HeadUnread, HeadFed, HeadBad, HeadFound, HeadGrown, HeadFault, HeadRefused, HeadFails, waiting_packets}
 use Rattle.am_pcap.specs.declared.refusal.CapError.{CapError}
 use Rattle.am_pcap.specs.declared.head.Head.{Head}
 use Rattle.am_pcap.specs.declared.capture.FileError.{FileError}
@@ -147,9 +148,9 @@ head-bad d d' held missing k e some none left is r =
 
 -- what was read of the file header is refused
 pub head-refused :
-    (d : Decoded) (held : List ℕ) (read : ℕ) (before after : Option Told) (more : List ℕ) (e : CapError)
-    → HeadUnread d held read → HeadBad d more e → Takes before after more → length more ≤ 65536 → HeadRefused d before after e
-head-refused d held read before after more e u bad took small = record {
+    (old : Reading) (before after : Option Told) (more : List ℕ) (e : CapError)
+    → HeadUnread old → HeadBad old.decoded more e → Takes before after more → length more ≤ 65536 → HeadRefused old.decoded before after e
+head-refused old before after more e u bad took small = record {
   more = more;
   took = took;
   at_end = λ cut. absurd (bad.not_cut cut);
@@ -158,64 +159,59 @@ head-refused d held read before after more e u bad took small = record {
 }
 
 -- nothing was read yet
-pub grown-none : (d : Decoded) (held : List ℕ) (read : ℕ) (told : Option Told) → HeadUnread d held read → HeadGrown d d held read told told
-grown-none d held read told u = record {
+pub grown-none : (old : Reading) (told : Option Told) → HeadUnread old → HeadGrown old old told told
+grown-none old told u = record {
   unread = u;
   more = [];
   took = takes-none told;
-  moves = λ bytes h. subst (λ x. HasSummary x [] d.summary) (sym (append-nil bytes)) h;
+  moves = λ bytes h. subst (λ x. HasSummary x [] old.decoded.summary) (sym (append-nil bytes)) h;
 }
 
-pub grown-join :
-    (d d' : Decoded) (held' : List ℕ) (read' : ℕ) (d'' : Decoded) (held'' : List ℕ) (read'' : ℕ) (a b c : Option Told)
-    → HeadGrown d d' held' read' a b → HeadGrown d' d'' held'' read'' b c → HeadGrown d d'' held'' read'' a c
-grown-join d d' held' read' d'' held'' read'' a b c p q = record {
+pub grown-join : (old mid new : Reading) (a b c : Option Told) → HeadGrown old mid a b → HeadGrown mid new b c → HeadGrown old new a c
+grown-join old mid new a b c p q = record {
   unread = q.unread;
   more = p.more ++ q.more;
   took = takes-join a b c p.more q.more p.took q.took;
-  moves = λ bytes h. subst (λ x. HasSummary x [] d''.summary) (append_assoc bytes p.more q.more) (q.moves (bytes ++ p.more) (p.moves bytes h));
+  moves = λ bytes h. subst (λ x. HasSummary x [] new.decoded.summary) (append_assoc bytes p.more q.more) (q.moves (bytes ++ p.more) (p.moves bytes h));
 }
 
-pub found-join :
-    (d d' : Decoded) (held' : List ℕ) (read' : ℕ) (d'' : Decoded) (held'' : List ℕ) (read'' : ℕ) (a b c : Option Told) (h : Head)
-    → HeadGrown d d' held' read' a b → HeadFound d' d'' held'' read'' b c h → HeadFound d d'' held'' read'' a c h
-found-join d d' held' read' d'' held'' read'' a b c h p q = record {
+pub found-join : (old mid new : Reading) (a b c : Option Told) (h : Head) → HeadGrown old mid a b → HeadFound mid new b c h → HeadFound old new a c h
+found-join old mid new a b c h p q = record {
   order = q.order;
   head = q.head;
   count = q.count;
   more = p.more ++ q.more;
   took = takes-join a b c p.more q.more p.took q.took;
-  moves = λ bytes s. subst (λ x. WereRead d'' held'' x []) (append_assoc bytes p.more q.more) (q.moves (bytes ++ p.more) (p.moves bytes s));
+  moves = λ bytes s. subst (λ x. WereRead new.decoded new.held x []) (append_assoc bytes p.more q.more) (q.moves (bytes ++ p.more) (p.moves bytes s));
 }
 
-fault-join :
-    (d d' : Decoded) (held' : List ℕ) (read' : ℕ) (a b c : Option Told) → HeadGrown d d' held' read' a b → HeadFault d' b c → HeadFault d a c
-fault-join d d' held' read' a b c p q = record {
+fault-join : (old mid : Reading) (a b c : Option Told) → HeadGrown old mid a b → HeadFault mid.decoded b c → HeadFault old.decoded a c
+fault-join old mid a b c p q = record {
   more = p.more ++ q.more;
   took = takes-join a b c p.more q.more p.took q.took;
   few = λ bytes h. subst (λ x. length x < 24) (append_assoc bytes p.more q.more) (q.few (bytes ++ p.more) (p.moves bytes h));
 }
 
 refused-join :
-    (d d' : Decoded) (held' : List ℕ) (read' : ℕ) (a b c : Option Told) (e : CapError)
-    → HeadGrown d d' held' read' a b → HeadRefused d' b c e → HeadRefused d a c e
-refused-join d d' held' read' a b c e p q = record {
+    (old mid : Reading) (a b c : Option Told) (e : CapError)
+    → HeadGrown old mid a b → HeadRefused mid.decoded b c e → HeadRefused old.decoded a c e
+refused-join old mid a b c e p q = record {
   more = p.more ++ q.more;
   took = takes-join a b c p.more q.more p.took q.took;
   at_end = q.at_end;
   refused = λ bytes rest h cut.
       subst (λ x. IsRefusedHeader (x ++ rest) e) (append_assoc bytes p.more q.more) (q.refused (bytes ++ p.more) rest (p.moves bytes h) cut);
-  short = λ bytes h. subst (λ x. length x ≤ most_read) (append_assoc bytes p.more q.more) (q.short (bytes ++ p.more) (p.moves bytes h));
+  short = λ bytes h. subst (λ x. length x ≤ MAX_READ) (append_assoc bytes p.more q.more) (q.short (bytes ++ p.more) (p.moves bytes h));
 }
 
 pub fails-join :
-    (d d' : Decoded) (held' : List ℕ) (read' : ℕ) (a b c : Option Told) (e : FileError)
-    → HeadGrown d d' held' read' a b → HeadFails d' b c e → HeadFails d a c e
-fails-join d d' held' read' a b c Missing p q = q
-fails-join d d' held' read' a b c ReadFault p q = fault-join d d' held' read' a b c p q
-fails-join d d' held' read' a b c TooLong p q = q
-fails-join d d' held' read' a b c (Bad e) p q = refused-join d d' held' read' a b c e p q
-fails-join d d' held' read' a b c Memory p q = q
+    (old mid : Reading) (a b c : Option Told) (e : FileError)
+    → HeadGrown old mid a b → HeadFails mid.decoded b c e → HeadFails old.decoded a c e
+fails-join old mid a b c Missing p q = q
+fails-join old mid a b c ReadFault p q = fault-join old mid a b c p q
+fails-join old mid a b c TooLong p q = q
+fails-join old mid a b c (Bad e) p q = refused-join old mid a b c e p q
+fails-join old mid a b c Memory p q = q
 
 -- the summary of no bytes is that of a new decoder
 new-summary : (d : Decoded) → d ≡ nothing_taken → HasSummary [] [] d.summary
@@ -223,13 +219,13 @@ new-summary d is = subst (λ x. HasSummary [] [] x.summary) (sym is) summary-non
 
 -- a file that was opened, whose header was read
 pub head-opened :
-    (d d' : Decoded) (held' : List ℕ) (read' : ℕ) (before mid after : Option Told) (name : List ℕ) (h : Head)
-    → d ≡ nothing_taken → Opens before mid name → HeadFound d d' held' read' mid after h
-    → (k : Head) × (d'.summary.head ≡ Some k) × ReadsOn before after name (reading_with d' held' read') k []
-head-opened d d' held' read' before mid after name h is opens f =
+    (old new : Reading) (before mid after : Option Told) (name : List ℕ) (h : Head)
+    → old.decoded ≡ nothing_taken → new.over ≡ false → Opens before mid name → HeadFound old new mid after h
+    → (k : Head) × (new.decoded.summary.head ≡ Some k) × ReadsOn before after name new k []
+head-opened old new before mid after name h is going opens f =
     let part = part-more before mid after name [] f.more (part-none before mid name opens) f.took in
-    let given = holds-given d' held' read' f.more [] f.order (f.moves [] (new-summary d is)) in
-    (h, f.head, reads-on before after name f.more (reading_with d' held' read') h [] part given refl f.head f.order.short)
+    let given = holds-given new f.more [] f.order (f.moves [] (new-summary old.decoded is)) in
+    (h, f.head, reads-on before after name f.more new h [] part given going f.head f.order.short)
 
 -- a file that was opened, whose header can't be had
 pub head-not_opened :

@@ -2,6 +2,7 @@ pub mod Splitting
 pub mod Steps
 pub mod Summaries
 pub mod Feeding
+pub mod FeedingRecords
 pub mod Verdicts
 pub mod Spelled
 pub mod Forms

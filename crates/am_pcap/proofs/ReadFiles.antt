@@ -1,14 +1,14 @@
 -- What the told file holds, by what was read of it and by the next answer.
-use Rattle.std.proofs.Common.{arith, refl, sym, ap, subst, ◌∙◌, ◌≡◌, ℕ, ◌≤◌, Bool, false, List, [], ◌++◌, length, take, drop, Option, Some, None, append_assoc}
+use Rattle.std.proofs.Common.{arith, refl, sym, ap, subst, ◌∙◌, ◌≡◌, ℕ, ◌≤◌, false, List, [], ◌++◌, length, take, drop, Option, Some, None, append_assoc}
 use Rattle.std.proofs.lemmas.List.{length-append, append-nil, take-append-le, drop-append-le}
 use Rattle.am_base.specs.Shelves.{Told, Takes, IsAtEnd}
 use Rattle.am_base.specs.Files.{OnFile, IsPartRead, KeepsFiles}
 use Rattle.am_pcap.specs.Packets.{Packet, HoldsPackets}
 use Rattle.am_pcap.specs.Heads.{IsHead}
 use Rattle.am_pcap.specs.Captures.{Summary, HasSummary, HasRecords, IsCapture, IsRefusedAfter}
-use Rattle.am_pcap.specs.Decoded.{Decoded}
 use Rattle.am_pcap.specs.Seeking.{reading_with}
-use Rattle.am_pcap.specs.Readings.{Reading, HasGiven, IsCut, AreRefused, most_read}
+use Rattle.am_pcap.specs.Readings.{Reading, HasGiven, IsCut, AreRefused}
+use Rattle.am_pcap.specs.declared.seeking.TheConstants.{MAX_READ}
 use Rattle.am_pcap.specs.CaptureFiles.{HasHead, Begins, BeginsWith, IsWholeCapture, IsLong, IsRefusedIn, IsRefusedBehind, IsReadWhole, ReadsOn, WhyStopped}
 use Rattle.am_pcap.specs.Answers.{GivesEnd, GivesFault, GivesRefusal, GivesError, EndsReading, StopsReading}
 use Rattle.am_pcap.specs.declared.refusal.CapError.{CapError}
@@ -52,7 +52,7 @@ begins-summary bytes ps s h p is = begins-parts bytes ps s.head s.count s.unfini
 -- bytes that were read, and more behind them, begin with what was given
 given-begins :
     (c : Reading) (h : Head) (bytes rest : List ℕ) (ps : List Packet)
-    → HasGiven c bytes ps → c.decoded.summary.head ≡ Some h → c.read ≤ most_read → BeginsWith (bytes ++ rest) h ps
+    → HasGiven c bytes ps → c.decoded.summary.head ≡ Some h → c.read ≤ MAX_READ → BeginsWith (bytes ++ rest) h ps
 given-begins c h bytes rest ps g head short =
     let first : Begins g.taken h ps c.decoded.summary.unfinished = begins-summary g.taken ps c.decoded.summary h g.summary head in
     let split : bytes ++ rest ≡ g.taken ++ (c.held ++ rest) = ap (λ x. x ++ rest) g.split ∙ append_assoc g.taken c.held rest in
@@ -70,7 +70,7 @@ given-begins c h bytes rest ps g head short =
 -- a capture is read on, of which these bytes were read
 pub reads-on :
     (before now : Option Told) (name bytes : List ℕ) (c : Reading) (h : Head) (ps : List Packet)
-    → IsPartRead before now name bytes → HasGiven c bytes ps → c.over ≡ false → c.decoded.summary.head ≡ Some h → c.read ≤ most_read
+    → IsPartRead before now name bytes → HasGiven c bytes ps → c.over ≡ false → c.decoded.summary.head ≡ Some h → c.read ≤ MAX_READ
     → ReadsOn before now name c h ps
 reads-on before now name bytes c h ps part given goes_on head short = record {
   bytes = bytes;
@@ -131,7 +131,7 @@ stops-fault old first before after name h ps on g =
 
 -- bytes that are refused so are so with more behind them
 refused-in :
-    (bytes rest : List ℕ) (e : CapError) (ps : List Packet) → AreRefused e bytes ps → (IsCut e → rest ≡ []) → length bytes ≤ most_read
+    (bytes rest : List ℕ) (e : CapError) (ps : List Packet) → AreRefused e bytes ps → (IsCut e → rest ≡ []) → length bytes ≤ MAX_READ
     → IsRefusedIn (bytes ++ rest) e ps
 refused-in bytes rest e ps refused cut short = record {
   front = bytes;
@@ -184,14 +184,11 @@ stops-reading : (old : Reading) (before after : Option Told) (e : FileError) →
 stops-reading old before after e g = λ first name h ps on.
     (stops-so old first before after name h ps e on g, stops-kept old first before after name h ps e on g)
 
--- a capture of these parts that goes on
-going : (d : Decoded) (held : List ℕ) (read : ℕ) (over : Bool) (old : Reading)
-    → record { decoded = d; held = held; read = read; over = over } ≡ old → old.over ≡ false → reading_with d held read ≡ old
-going d held read over old view is =
-    let on : over ≡ false = ap (λ x. x.over) view ∙ is in
-    let parts : reading_with d held read ≡ record { decoded = d; held = held; read = read; over = over } =
-    ap (λ o. record { decoded = d; held = held; read = read; over = o }) (sym on) in
-    parts ∙ view
+-- a capture that goes on is that of its parts
+going : (c old : Reading) → c ≡ old → old.over ≡ false → reading_with c.decoded c.held c.read ≡ old
+going c old view is =
+    let on : c.over ≡ false = ap (λ x. x.over) view ∙ is in
+    ap (λ o. record { decoded = c.decoded; held = c.held; read = c.read; over = o }) (sym on) ∙ view
 
 -- what is answered at the end, in the words of the capture
 pub record Ends (old : Reading) (before after : Option Told) : Type 0 where
@@ -199,11 +196,10 @@ pub record Ends (old : Reading) (before after : Option Told) : Type 0 where
   pub at_end : GivesEnd old before after
 
 pub ends-so :
-    (d : Decoded) (held : List ℕ) (read : ℕ) (over : Bool) (old : Reading) (before after : Option Told)
-    → record { decoded = d; held = held; read = read; over = over } ≡ old → old.over ≡ false
-    → GivesEnd (reading_with d held read) before after → Ends old before after
-ends-so d held read over old before after view is e =
-    let gives : GivesEnd old before after = subst (λ x. GivesEnd x before after) (going d held read over old view is) e in
+    (old : Reading) {c : Reading} (before after : Option Told) → c ≡ old → old.over ≡ false
+    → GivesEnd (reading_with c.decoded c.held c.read) before after → Ends old before after
+ends-so old {c} before after view is e =
+    let gives : GivesEnd old before after = subst (λ x. GivesEnd x before after) (going c old view is) e in
     record { ended = ends-reading old before after gives; at_end = gives }
 
 -- and at an error
@@ -212,9 +208,8 @@ pub record Stops (old : Reading) (before after : Option Told) (e : FileError) : 
   pub error : GivesError old before after e
 
 pub stops-at :
-    (d : Decoded) (held : List ℕ) (read : ℕ) (over : Bool) (old : Reading) (before after : Option Told) (e : FileError)
-    → record { decoded = d; held = held; read = read; over = over } ≡ old → old.over ≡ false
-    → GivesError (reading_with d held read) before after e → Stops old before after e
-stops-at d held read over old before after e view is g =
-    let gives : GivesError old before after e = subst (λ x. GivesError x before after e) (going d held read over old view is) g in
+    (old : Reading) {c : Reading} (before after : Option Told) (e : FileError) → c ≡ old → old.over ≡ false
+    → GivesError (reading_with c.decoded c.held c.read) before after e → Stops old before after e
+stops-at old {c} before after e view is g =
+    let gives : GivesError old before after e = subst (λ x. GivesError x before after e) (going c old view is) g in
     record { refused = stops-reading old before after e gives; error = gives }

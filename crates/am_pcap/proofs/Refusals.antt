@@ -12,8 +12,8 @@ use Rattle.am_pcap.specs.declared.refusal.CapError.{CapError}
 use Rattle.am_pcap.specs.declared.refusal.CapError.TheVariants.{BadMagic, BadVersion, UnknownLink, CutFile, RecordTooLong}
 use Rattle.am_pcap.specs.declared.head.Head.{Head}
 use Rattle.am_pcap.proofs.Splitting.{word-append, packets-append}
-use Rattle.am_pcap.proofs.Summaries.{summaries-grow, summary-exists}
-use Rattle.am_pcap.proofs.Verdicts.{verdict-exact, verdict-unique}
+use Rattle.am_pcap.proofs.Summaries.{summaries-grow}
+use Rattle.am_pcap.proofs.Verdicts.{verdict-unique}
 
 -- two lists that are one have one last packet
 last-one : (xs ys : List Packet) (x y : Packet) → xs ++ x ∷ [] ≡ ys ++ y ∷ [] → x ≡ y
@@ -157,23 +157,6 @@ pub after-refused : (e : CapError) (bytes : List ℕ) (ps : List Packet) → IsR
 after-refused e bytes ps (inl p) = inl (p.0, p.1)
 after-refused e bytes ps (inr (inl p)) = inr (inl (p.0, p.1))
 after-refused e bytes ps (inr (inr p)) = inr (inr p.0)
-
-stays-parts :
-    (front : List ℕ) (qs : List Packet) (s : Summary) (error : Option CapError) (e : CapError) (rest : List ℕ)
-    → HasSummary front qs s → s.error ≡ error → verdict s ≡ Err e → (IsCut e → ⊥) → IsRefused e (front ++ rest)
-stays-parts front qs s None e rest h is says stable =
-    let v : IsVerdictAfter (Err e) s.head front qs = ends-after front qs s (Err e) h is (sym says) in absurd (stable v.0)
-stays-parts front qs s (Some d) e rest h is says stable =
-    let v : verdict s ≡ Err d = ap (λ x. unless_refused x (unless_cut s.head s.count s.unfinished)) is in
-    let same : d ≡ e = cc (v, says) in
-    after-refused e (front ++ rest) qs (subst (λ x. IsRefusedAfter x (front ++ rest) qs) same (refused-after front qs s d h is rest))
-
--- a refusal that isn't for want of more bytes stays one, whatever bytes follow
-pub stays-refused :
-    (e : CapError) (front : List ℕ) (rest : List ℕ) → IsRefused e front → (IsCut e → ⊥) → IsRefused e (front ++ rest)
-stays-refused e front rest r stable =
-    let s = summary-exists front in
-    stays-parts front s.0 s.1 s.1.error e rest s.2 refl (verdict-exact front s.0 s.1 (Err e) s.2 r) stable
 
 -- a capture isn't refused
 pub capture-not_refused : (bytes : List ℕ) (h : Head) (ps : List Packet) (e : CapError) → IsCapture bytes h ps → IsRefused e bytes → ⊥

@@ -7,7 +7,8 @@ use Rattle.am_base.specs.Shelves.{Told, Takes, IsAtEnd}
 use Rattle.am_pcap.specs.Packets.{Packet}
 use Rattle.am_pcap.specs.Captures.{HasSummary, IsCapture, IsRefusedAfter, verdict}
 use Rattle.am_pcap.specs.Decoded.{Decoded, Took, Refused, Counts}
-use Rattle.am_pcap.specs.Readings.{HasGiven, AreRefused, most_read}
+use Rattle.am_pcap.specs.Readings.{Reading, HasGiven, AreRefused}
+use Rattle.am_pcap.specs.declared.seeking.TheConstants.{MAX_READ}
 use Rattle.am_pcap.specs.Answers.{GivesEnd, GivesFault, GivesTooLong, GivesRefusal, GivesError}
 use Rattle.am_pcap.specs.Seeking.{InOrder, WereRead, Drains, DrainsTo, RefillFails, Continued, Found, reading_with, waiting_packets}
 use Rattle.am_pcap.specs.declared.refusal.CapError.{CapError}
@@ -18,19 +19,17 @@ use Rattle.am_pcap.proofs.Steps.{drop-whole}
 use Rattle.am_pcap.proofs.Shelved.{takes-none, takes-join, end-stays}
 
 -- what was given is held so
-pub given-holds : (d : Decoded) (held : List ℕ) (read : ℕ) (bytes : List ℕ) (ps : List Packet) → HasGiven (reading_with d held read) bytes ps → WereRead d held bytes ps
-given-holds d held read bytes ps g = record { taken = g.taken; split = g.split; summary = g.summary }
+pub given-holds : (old : Reading) (bytes : List ℕ) (ps : List Packet) → HasGiven old bytes ps → WereRead old.decoded old.held bytes ps
+given-holds old bytes ps g = record { taken = g.taken; split = g.split; summary = g.summary }
 
 -- and back, where all fits together
-pub holds-given :
-    (d : Decoded) (held : List ℕ) (read : ℕ) (bytes : List ℕ) (ps : List Packet) → InOrder d held read → WereRead d held bytes ps
-    → HasGiven (reading_with d held read) bytes ps
-holds-given d held read bytes ps o h = record {
+pub holds-given : (old : Reading) (bytes : List ℕ) (ps : List Packet) → InOrder old → WereRead old.decoded old.held bytes ps → HasGiven old bytes ps
+holds-given old bytes ps o h = record {
   taken = h.taken;
   split = h.split;
   summary = h.summary;
   none_waits = o.none_waits;
-  read = omega (arith, o.all, h.summary.taken, ap length h.split, length-append h.taken held);
+  read = omega (arith, o.all, h.summary.taken, ap length h.split, length-append h.taken old.held);
 }
 
 not-some : (w : Option Packet) → w ≡ None → IsSome w → ⊥
@@ -88,9 +87,9 @@ drain-refused d d' held e none r = λ bytes ps h.
 
 -- a record came to wait of what was held
 pub found-drained :
-    (d : Decoded) (held : List ℕ) (read : ℕ) (d' : Decoded) (held' : List ℕ) (told : Option Told) → InOrder d held read → Drains d held d' held' → IsSome d'.waiting
-    → Found d held read d' held' read told told
-found-drained d held read d' held' told o r w =
+    (old : Reading) (d' : Decoded) (held' : List ℕ) (told : Option Told) → InOrder old → Drains old.decoded old.held d' held'
+    → IsSome d'.waiting → Found old (reading_with d' held' old.read) told told
+found-drained old d' held' told o r w =
     let some = some-packet d'.waiting w in
     record {
       clean = r.clean;
@@ -121,10 +120,10 @@ all-decoded d held d' held' r none bytes ps h =
 
 -- more bytes were read, where all was decoded
 pub continued-refilled :
-    (d : Decoded) (held : List ℕ) (read : ℕ) (d' : Decoded) (held' more : List ℕ) (read' : ℕ) (before after : Option Told)
-    → InOrder d held read → Drains d held d' held' → d'.waiting ≡ None → Takes before after more → read' ≡ read + length more → read' ≤ most_read
-    → Continued d held read d' more read' before after
-continued-refilled d held read d' held' more read' before after o r none took is short = record {
+    (old : Reading) (d' : Decoded) (held' more : List ℕ) (read' : ℕ) (before after : Option Told)
+    → InOrder old → Drains old.decoded old.held d' held' → d'.waiting ≡ None → Takes before after more → read' ≡ old.read + length more → read' ≤ MAX_READ
+    → Continued old (reading_with d' more read') before after
+continued-refilled old d' held' more read' before after o r none took is short = record {
   order = record {
     clean = r.clean;
     none_waits = none;
@@ -136,43 +135,43 @@ continued-refilled d held read d' held' more read' before after o r none took is
   count = r.same none;
   more = more;
   took = took;
-  moves = λ bytes ps h. record { taken = bytes; split = refl; summary = (all-decoded d held d' held' r none bytes ps h).summary };
+  moves = λ bytes ps h. record { taken = bytes; split = refl; summary = (all-decoded old.decoded old.held d' held' r none bytes ps h).summary };
 }
 
 -- no more could be read
 pub refill-fails :
-    (d : Decoded) (held : List ℕ) (read : ℕ) (d' : Decoded) (held' : List ℕ) (before after : Option Told) (e : FileError)
-    → InOrder d held read → Drains d held d' held' → d'.waiting ≡ None → RefillFails read before after e
-    → GivesError (reading_with d held read) before after e
-refill-fails d held read d' held' before after Missing o r none f = f
-refill-fails d held read d' held' before after ReadFault o r none f =
-    let fault : GivesFault (reading_with d held read) before after = record {
+    (old : Reading) (d' : Decoded) (held' : List ℕ) (before after : Option Told) (e : FileError)
+    → InOrder old → Drains old.decoded old.held d' held' → d'.waiting ≡ None → RefillFails old.read before after e
+    → GivesError old before after e
+refill-fails old d' held' before after Missing o r none f = f
+refill-fails old d' held' before after ReadFault o r none f =
+    let fault : GivesFault old before after = record {
       more = [];
       took = subst (λ x. Takes before x []) (sym f) (takes-none before);
       all = λ bytes ps g. (
         d'.summary,
-        subst (λ x. HasSummary x ps d'.summary) (sym (append-nil bytes)) (all-decoded d held d' held' r none bytes ps (given-holds d held read bytes ps g)).summary,
+        subst (λ x. HasSummary x ps d'.summary) (sym (append-nil bytes)) (all-decoded old.decoded old.held d' held' r none bytes ps (given-holds old bytes ps g)).summary,
         omega (arith, ap length (append-nil bytes), g.read, o.short),
       );
     } in fault
-refill-fails d held read d' held' before after TooLong o r none f =
-    let long : GivesTooLong (reading_with d held read) before after = record {
+refill-fails old d' held' before after TooLong o r none f =
+    let long : GivesTooLong old before after = record {
       more = f.0;
       took = f.1;
       long = λ bytes ps g. omega (arith, f.2, g.read, length-append bytes f.0);
     } in long
-refill-fails d held read d' held' before after (Bad e) o r none f = absurd f
-refill-fails d held read d' held' before after Memory o r none f = f
+refill-fails old d' held' before after (Bad e) o r none f = absurd f
+refill-fails old d' held' before after Memory o r none f = f
 
 -- the decoder refused what was held
 pub refused-drained :
-    (d : Decoded) (held : List ℕ) (read : ℕ) (told : Option Told) (e : CapError) → InOrder d held read → DrainsTo d held e
-    → GivesRefusal (reading_with d held read) told told e
-refused-drained d held read told e o f = record {
+    (old : Reading) (told : Option Told) (e : CapError) → InOrder old → DrainsTo old.decoded old.held e
+    → GivesRefusal old told told e
+refused-drained old told e o f = record {
   more = [];
   took = takes-none told;
   refused = λ bytes ps g.
-      let both = f bytes ps (given-holds d held read bytes ps g) in (
+      let both = f bytes ps (given-holds old bytes ps g) in (
         subst (λ x. AreRefused e x ps) (sym (append-nil bytes)) both.0,
         λ cut. absurd (both.1 cut),
         omega (arith, ap length (append-nil bytes), g.read, o.short),
@@ -190,17 +189,17 @@ at-end before after more took none end =
     record { took = t; at_end = end-stays before after t end }
 
 pub ended :
-    (d : Decoded) (held : List ℕ) (read : ℕ) (d' : Decoded) (held' more : List ℕ) (before after : Option Told) (u : Unit {0})
-    → InOrder d held read → Drains d held d' held' → d'.waiting ≡ None → Takes before after more → more ≡ [] → IsAtEnd before → Ok u ≡ verdict d'.summary
-    → GivesEnd (reading_with d held read) before after
-ended d held read d' held' more before after u o r none took empty end says =
+    (old : Reading) (d' : Decoded) (held' more : List ℕ) (before after : Option Told) (u : Unit {0})
+    → InOrder old → Drains old.decoded old.held d' held' → d'.waiting ≡ None → Takes before after more → more ≡ [] → IsAtEnd before → Ok u ≡ verdict d'.summary
+    → GivesEnd old before after
+ended old d' held' more before after u o r none took empty end says =
     let a = at-end before after more took empty end in
     record {
       more = [];
       took = a.took;
       at_end = a.at_end;
       whole = λ bytes ps g.
-          let all = all-decoded d held d' held' r none bytes ps (given-holds d held read bytes ps g) in
+          let all = all-decoded old.decoded old.held d' held' r none bytes ps (given-holds old bytes ps g) in
           let v : IsVerdictAfter (Ok u) d'.summary.head bytes ps = ends-after bytes ps d'.summary (Ok u) all.summary r.clean says in (
             v.0,
             sym r.head ∙ v.1,
@@ -210,16 +209,16 @@ ended d held read d' held' more before after u o r none took empty end says =
     }
 
 pub ended-cut :
-    (d : Decoded) (held : List ℕ) (read : ℕ) (d' : Decoded) (held' more : List ℕ) (before after : Option Told) (e : CapError)
-    → InOrder d held read → Drains d held d' held' → d'.waiting ≡ None → Takes before after more → more ≡ [] → IsAtEnd before → Err e ≡ verdict d'.summary
-    → GivesRefusal (reading_with d held read) before after e
-ended-cut d held read d' held' more before after e o r none took empty end says =
+    (old : Reading) (d' : Decoded) (held' more : List ℕ) (before after : Option Told) (e : CapError)
+    → InOrder old → Drains old.decoded old.held d' held' → d'.waiting ≡ None → Takes before after more → more ≡ [] → IsAtEnd before → Err e ≡ verdict d'.summary
+    → GivesRefusal old before after e
+ended-cut old d' held' more before after e o r none took empty end says =
     let a = at-end before after more took empty end in
     record {
       more = [];
       took = a.took;
       refused = λ bytes ps g.
-          let all = all-decoded d held d' held' r none bytes ps (given-holds d held read bytes ps g) in
+          let all = all-decoded old.decoded old.held d' held' r none bytes ps (given-holds old bytes ps g) in
           let v : IsVerdictAfter (Err e) d'.summary.head bytes ps = ends-after bytes ps d'.summary (Err e) all.summary r.clean says in (
             λ rest none_more. subst (λ x. IsRefusedAfter e x ps)
                 (sym (ap (λ x. (bytes ++ []) ++ x) (none_more v.0) ∙ append-nil (bytes ++ []) ∙ append-nil bytes)) v.1,
@@ -229,32 +228,28 @@ ended-cut d held read d' held' more before after e o r none took empty end says 
     }
 
 -- one step after another
-pub continued-none : (d : Decoded) (held : List ℕ) (read : ℕ) (told : Option Told) → InOrder d held read → Continued d held read d held read told told
-continued-none d held read told o = record {
+pub continued-none : (old : Reading) (told : Option Told) → InOrder old → Continued old old told told
+continued-none old told o = record {
   order = o;
   head = refl;
   count = refl;
   more = [];
   took = takes-none told;
-  moves = λ bytes ps h. subst (λ x. WereRead d held x ps) (sym (append-nil bytes)) h;
+  moves = λ bytes ps h. subst (λ x. WereRead old.decoded old.held x ps) (sym (append-nil bytes)) h;
 }
 
-pub continued-join :
-    (d : Decoded) (held : List ℕ) (read : ℕ) (d' : Decoded) (held' : List ℕ) (read' : ℕ) (d'' : Decoded) (held'' : List ℕ) (read'' : ℕ) (a b c : Option Told)
-    → Continued d held read d' held' read' a b → Continued d' held' read' d'' held'' read'' b c → Continued d held read d'' held'' read'' a c
-continued-join d held read d' held' read' d'' held'' read'' a b c p q = record {
+pub continued-join : (old mid new : Reading) (a b c : Option Told) → Continued old mid a b → Continued mid new b c → Continued old new a c
+continued-join old mid new a b c p q = record {
   order = q.order;
   head = q.head ∙ p.head;
   count = q.count ∙ p.count;
   more = p.more ++ q.more;
   took = takes-join a b c p.more q.more p.took q.took;
-  moves = λ bytes ps h. subst (λ x. WereRead d'' held'' x ps) (append_assoc bytes p.more q.more) (q.moves (bytes ++ p.more) ps (p.moves bytes ps h));
+  moves = λ bytes ps h. subst (λ x. WereRead new.decoded new.held x ps) (append_assoc bytes p.more q.more) (q.moves (bytes ++ p.more) ps (p.moves bytes ps h));
 }
 
-pub found-join :
-    (d : Decoded) (held : List ℕ) (read : ℕ) (d' : Decoded) (held' : List ℕ) (read' : ℕ) (d'' : Decoded) (held'' : List ℕ) (read'' : ℕ) (a b c : Option Told)
-    → Continued d held read d' held' read' a b → Found d' held' read' d'' held'' read'' b c → Found d held read d'' held'' read'' a c
-found-join d held read d' held' read' d'' held'' read'' a b c p q = record {
+pub found-join : (old mid new : Reading) (a b c : Option Told) → Continued old mid a b → Found mid new b c → Found old new a c
+found-join old mid new a b c p q = record {
   clean = q.clean;
   head = q.head ∙ p.head;
   count = omega (arith, q.count, p.count);
@@ -265,69 +260,59 @@ found-join d held read d' held' read' d'' held'' read'' a b c p q = record {
   waits = q.waits;
   more = p.more ++ q.more;
   took = takes-join a b c p.more q.more p.took q.took;
-  moves = λ bytes ps h. subst (λ x. WereRead d'' held'' x (ps ++ q.packet ∷ [])) (append_assoc bytes p.more q.more) (q.moves (bytes ++ p.more) ps (p.moves bytes ps h));
+  moves = λ bytes ps h. subst (λ x. WereRead new.decoded new.held x (ps ++ q.packet ∷ [])) (append_assoc bytes p.more q.more) (q.moves (bytes ++ p.more) ps (p.moves bytes ps h));
 }
 
 -- what was given before is given still
 given-continued :
-    (d : Decoded) (held : List ℕ) (read : ℕ) (d' : Decoded) (held' : List ℕ) (read' : ℕ) (a b : Option Told) (p : Continued d held read d' held' read' a b)
-    → (bytes : List ℕ) (ps : List Packet) → HasGiven (reading_with d held read) bytes ps → HasGiven (reading_with d' held' read') (bytes ++ p.more) ps
-given-continued d held read d' held' read' a b p bytes ps g =
-    holds-given d' held' read' (bytes ++ p.more) ps p.order (p.moves bytes ps (given-holds d held read bytes ps g))
+    (old mid : Reading) (a b : Option Told) (p : Continued old mid a b)
+    → (bytes : List ℕ) (ps : List Packet) → HasGiven old bytes ps → HasGiven mid (bytes ++ p.more) ps
+given-continued old mid a b p bytes ps g =
+    holds-given mid (bytes ++ p.more) ps p.order (p.moves bytes ps (given-holds old bytes ps g))
 
-pub end-join :
-    (d : Decoded) (held : List ℕ) (read : ℕ) (d' : Decoded) (held' : List ℕ) (read' : ℕ) (a b c : Option Told)
-    → Continued d held read d' held' read' a b → GivesEnd (reading_with d' held' read') b c → GivesEnd (reading_with d held read) a c
-end-join d held read d' held' read' a b c p q = record {
+pub end-join : (old mid : Reading) (a b c : Option Told) → Continued old mid a b → GivesEnd mid b c → GivesEnd old a c
+end-join old mid a b c p q = record {
   more = p.more ++ q.more;
   took = takes-join a b c p.more q.more p.took q.took;
   at_end = q.at_end;
   whole = λ bytes ps g.
       let is : (bytes ++ p.more) ++ q.more ≡ bytes ++ (p.more ++ q.more) = append_assoc bytes p.more q.more in
-      let w = q.whole (bytes ++ p.more) ps (given-continued d held read d' held' read' a b p bytes ps g) in
-      (w.0, sym p.head ∙ w.1, subst (λ x. IsCapture x w.0 ps) is w.2, subst (λ x. length x ≤ most_read) is w.3);
+      let w = q.whole (bytes ++ p.more) ps (given-continued old mid a b p bytes ps g) in
+      (w.0, sym p.head ∙ w.1, subst (λ x. IsCapture x w.0 ps) is w.2, subst (λ x. length x ≤ MAX_READ) is w.3);
 }
 
-fault-join :
-    (d : Decoded) (held : List ℕ) (read : ℕ) (d' : Decoded) (held' : List ℕ) (read' : ℕ) (a b c : Option Told)
-    → Continued d held read d' held' read' a b → GivesFault (reading_with d' held' read') b c → GivesFault (reading_with d held read) a c
-fault-join d held read d' held' read' a b c p q = record {
+fault-join : (old mid : Reading) (a b c : Option Told) → Continued old mid a b → GivesFault mid b c → GivesFault old a c
+fault-join old mid a b c p q = record {
   more = p.more ++ q.more;
   took = takes-join a b c p.more q.more p.took q.took;
   all = λ bytes ps g.
       let is : (bytes ++ p.more) ++ q.more ≡ bytes ++ (p.more ++ q.more) = append_assoc bytes p.more q.more in
-      let w = q.all (bytes ++ p.more) ps (given-continued d held read d' held' read' a b p bytes ps g) in
-      (w.0, subst (λ x. HasSummary x ps w.0) is w.1, subst (λ x. length x ≤ most_read) is w.2);
+      let w = q.all (bytes ++ p.more) ps (given-continued old mid a b p bytes ps g) in
+      (w.0, subst (λ x. HasSummary x ps w.0) is w.1, subst (λ x. length x ≤ MAX_READ) is w.2);
 }
 
-long-join :
-    (d : Decoded) (held : List ℕ) (read : ℕ) (d' : Decoded) (held' : List ℕ) (read' : ℕ) (a b c : Option Told)
-    → Continued d held read d' held' read' a b → GivesTooLong (reading_with d' held' read') b c → GivesTooLong (reading_with d held read) a c
-long-join d held read d' held' read' a b c p q = record {
+long-join : (old mid : Reading) (a b c : Option Told) → Continued old mid a b → GivesTooLong mid b c → GivesTooLong old a c
+long-join old mid a b c p q = record {
   more = p.more ++ q.more;
   took = takes-join a b c p.more q.more p.took q.took;
   long = λ bytes ps g.
       let is : (bytes ++ p.more) ++ q.more ≡ bytes ++ (p.more ++ q.more) = append_assoc bytes p.more q.more in
-      subst (λ x. most_read < length x) is (q.long (bytes ++ p.more) ps (given-continued d held read d' held' read' a b p bytes ps g));
+      subst (λ x. MAX_READ < length x) is (q.long (bytes ++ p.more) ps (given-continued old mid a b p bytes ps g));
 }
 
-refusal-join :
-    (d : Decoded) (held : List ℕ) (read : ℕ) (d' : Decoded) (held' : List ℕ) (read' : ℕ) (a b c : Option Told) (e : CapError)
-    → Continued d held read d' held' read' a b → GivesRefusal (reading_with d' held' read') b c e → GivesRefusal (reading_with d held read) a c e
-refusal-join d held read d' held' read' a b c e p q = record {
+refusal-join : (old mid : Reading) (a b c : Option Told) (e : CapError) → Continued old mid a b → GivesRefusal mid b c e → GivesRefusal old a c e
+refusal-join old mid a b c e p q = record {
   more = p.more ++ q.more;
   took = takes-join a b c p.more q.more p.took q.took;
   refused = λ bytes ps g.
       let is : (bytes ++ p.more) ++ q.more ≡ bytes ++ (p.more ++ q.more) = append_assoc bytes p.more q.more in
-      let w = q.refused (bytes ++ p.more) ps (given-continued d held read d' held' read' a b p bytes ps g) in
-      (subst (λ x. AreRefused e x ps) is w.0, w.1, subst (λ x. length x ≤ most_read) is w.2);
+      let w = q.refused (bytes ++ p.more) ps (given-continued old mid a b p bytes ps g) in
+      (subst (λ x. AreRefused e x ps) is w.0, w.1, subst (λ x. length x ≤ MAX_READ) is w.2);
 }
 
-pub error-join :
-    (d : Decoded) (held : List ℕ) (read : ℕ) (d' : Decoded) (held' : List ℕ) (read' : ℕ) (a b c : Option Told) (e : FileError)
-    → Continued d held read d' held' read' a b → GivesError (reading_with d' held' read') b c e → GivesError (reading_with d held read) a c e
-error-join d held read d' held' read' a b c Missing p q = q
-error-join d held read d' held' read' a b c ReadFault p q = fault-join d held read d' held' read' a b c p q
-error-join d held read d' held' read' a b c TooLong p q = long-join d held read d' held' read' a b c p q
-error-join d held read d' held' read' a b c (Bad e) p q = refusal-join d held read d' held' read' a b c e p q
-error-join d held read d' held' read' a b c Memory p q = q
+pub error-join : (old mid : Reading) (a b c : Option Told) (e : FileError) → Continued old mid a b → GivesError mid b c e → GivesError old a c e
+error-join old mid a b c Missing p q = q
+error-join old mid a b c ReadFault p q = fault-join old mid a b c p q
+error-join old mid a b c TooLong p q = long-join old mid a b c p q
+error-join old mid a b c (Bad e) p q = refusal-join old mid a b c e p q
+error-join old mid a b c Memory p q = q

@@ -37,7 +37,3 @@ part-more (Some t) b c name bytes more p q =
 pub part-keeps : (a b : Option Told) (name bytes : List ℕ) → IsPartRead a b name bytes → KeepsFiles a b
 part-keeps None b name bytes p = ap files_told p
 part-keeps (Some t) b name bytes p = ap files_told p.2
-
-pub takes-keeps : (a b : Option Told) (more : List ℕ) → Takes a b more → KeepsFiles a b
-takes-keeps None b more p = ap files_told p
-takes-keeps (Some t) b more p = ap files_told p.2

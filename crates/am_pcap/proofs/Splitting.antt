@@ -2,7 +2,8 @@
 use Rattle.std.proofs.Common.{arith, refl, sym, ap, subst, ◌∙◌, ◌≡◌, ℕ, zero, suc, ◌+◌, ◌≤◌, Bool, true, false, List, [], ◌∷◌, ◌++◌, length, take, drop, get_or, ◌⊎◌, inl, inr}
 use Rattle.std.proofs.lemmas.List.{get_or_append_left, length-append, take-append-le, drop-append-le, length-drop}
 use Rattle.std.proofs.lemmas.Bool.{cases_lt}
-use Rattle.am_pcap.specs.Packets.{word, Packet, IsWhole, first_packet, behind_first, HoldsPackets, most_captured}
+use Rattle.am_pcap.specs.Packets.{word, Packet, IsWhole, first_packet, behind_first, HoldsPackets}
+use Rattle.am_pcap.specs.declared.decoder.TheConstants.{MAX_CAPTURED}
 
 -- a number stays the same where bytes are added behind it
 pub word-append : (big : Bool) (bytes more : List ℕ) (at : ℕ) → at + 4 ≤ length bytes → word big (bytes ++ more) at ≡ word big bytes at
@@ -92,7 +93,7 @@ split-unique big bytes (p ∷ ps) rest (q ∷ qs) left h stuck k none =
 pub whole-or_not : (big : Bool) (bytes : List ℕ) → IsWhole big bytes ⊎ (IsWhole big bytes → ⊥)
 whole-or_not big bytes = elim (cases_lt (length bytes) 16) [
   | inl a ↦ inr (λ (w : IsWhole big bytes). omega (arith, a, w.head))
-  | inr a ↦ elim (cases_lt most_captured (word big bytes 8)) [
+  | inr a ↦ elim (cases_lt MAX_CAPTURED (word big bytes 8)) [
     | inl b ↦ inr (λ (w : IsWhole big bytes). omega (arith, b, w.not_long))
     | inr b ↦ elim (cases_lt (length bytes) (16 + word big bytes 8)) [
       | inl d ↦ inr (λ (w : IsWhole big bytes). omega (arith, d, w.body))

@@ -1,5 +1,5 @@
 -- How the summary of bytes grows with the bytes behind them.
-use Rattle.std.proofs.Common.{arith, refl, sym, ap, subst, ◌≡◌, ℕ, ◌+◌, ◌<◌, List, [], ◌∷◌, ◌++◌, length, take, drop, Option, Some, None}
+use Rattle.std.proofs.Common.{arith, refl, sym, ap, subst, ◌≡◌, ℕ, ◌+◌, List, [], ◌∷◌, ◌++◌, length, take, drop, Option, Some, None}
 use Rattle.std.proofs.lemmas.List.{length-append, take-append-le, drop-append-le, append-nil}
 use Rattle.std.proofs.Math.Seq.{take-append_seam, drop-append_seam}
 use Rattle.am_pcap.specs.Packets.{word, Packet, IsWhole, first_packet, behind_first, HoldsPackets}
@@ -25,21 +25,6 @@ drop-whole n xs h =
 -- without any bytes
 pub summary-none : HasSummary [] [] (record { head = None; count = 0; unfinished = []; taken = 0; error = None })
 summary-none = record { count = refl; taken = refl; split = record { short = omega arith; none = refl; rest = refl } }
-
--- the file header isn't there yet
-pub head-grows :
-    (bytes : List ℕ) (ps : List Packet) (count taken : ℕ) (unfinished more : List ℕ)
-    → HasSummary bytes ps (record { head = None; count = count; unfinished = unfinished; taken = taken; error = None })
-    → length (unfinished ++ more) < 24
-    → HasSummary (bytes ++ more) ps (record { head = None; count = count; unfinished = unfinished ++ more; taken = taken + length more; error = None })
-head-grows bytes ps count taken unfinished more s short =
-    let e : unfinished ≡ bytes = s.split.rest in
-    let f : unfinished ++ more ≡ bytes ++ more = ap (λ x. x ++ more) e in
-    record {
-      count = s.count;
-      taken = omega (arith, s.taken, length-append bytes more);
-      split = record { short = subst (λ x. length x < 24) f short; none = s.split.none; rest = f };
-    }
 
 -- it is there, and refused
 pub head-refused :

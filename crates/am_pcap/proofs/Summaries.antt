@@ -1,7 +1,8 @@
 -- The law on summaries: each list of bytes has one, which, with the bytes that follow, tells all that comes.
 use Rattle.std.proofs.Common.{arith, refl, sym, ap, subst, ◌∙◌, ◌≡◌, ℕ, ◌+◌, ◌≤◌, Bool, List, [], ◌++◌, length, take, drop, Option, Some, None, Result, Ok, Err, inl, inr}
 use Rattle.std.proofs.lemmas.Bool.{cases_lt}
-use Rattle.am_pcap.specs.Packets.{word, Packet, most_captured}
+use Rattle.am_pcap.specs.Packets.{word, Packet}
+use Rattle.am_pcap.specs.declared.decoder.TheConstants.{MAX_CAPTURED}
 use Rattle.am_pcap.specs.Heads.{IsJudged}
 use Rattle.am_pcap.specs.Captures.{Summary, HasSummary, IsSplit, HasRecords, IsTooLong, IsRecordError}
 use Rattle.am_pcap.specs.declared.refusal.CapError.{CapError}
@@ -76,7 +77,7 @@ summary-unique bytes ps qs s t p q =
 error-exists : (big : Bool) (number : ℕ) (rest : List ℕ) → (e : Option CapError) × IsRecordError big number rest e
 error-exists big number rest = elim (cases_lt (length rest) 16) [
   | inl a ↦ (None, λ (w : IsTooLong big rest). omega (arith, a, w.head))
-  | inr a ↦ elim (cases_lt most_captured (word big rest 8)) [
+  | inr a ↦ elim (cases_lt MAX_CAPTURED (word big rest 8)) [
     | inl b ↦ (Some (RecordTooLong number (word big rest 8)), (record { head = a; long = b }, refl))
     | inr b ↦ (None, λ (w : IsTooLong big rest). omega (arith, b, w.long))
   ]

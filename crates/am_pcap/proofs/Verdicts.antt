@@ -3,16 +3,11 @@ use Rattle.std.proofs.Common.{arith, refl, sym, ap, ◌∙◌, ◌≡◌, ℕ, �
 use Rattle.am_pcap.specs.Packets.{Packet, IsWhole, HoldsPackets}
 use Rattle.am_pcap.specs.Heads.{IsHead}
 use Rattle.am_pcap.specs.Captures.{Summary, HasSummary, IsTooLong, IsVerdict, WhyRefused, verdict, unless_cut, unless_refused}
-use Rattle.am_pcap.specs.Decoded.{Decoded, StandsFor, nothing_taken}
+use Rattle.am_pcap.specs.Decoded.{Decoded, StandsFor}
 use Rattle.am_pcap.specs.declared.refusal.CapError.{CapError}
 use Rattle.am_pcap.specs.declared.refusal.CapError.TheVariants.{CutFile}
 use Rattle.am_pcap.specs.declared.head.Head.{Head}
-use Rattle.am_pcap.proofs.Steps.{summary-none}
 use Rattle.am_pcap.proofs.Summaries.{summary-unique, summary-exists}
-
--- a decoder that has taken nothing stands for no bytes
-pub new-stands : StandsFor nothing_taken []
-new-stands = record { packets = []; summary = summary-none; waiting = tt }
 
 says_of-parts :
     (bytes : List ℕ) (ps : List Packet) (head : Option Head) (count : ℕ) (unfinished : List ℕ) (taken : ℕ) (error : Option CapError)

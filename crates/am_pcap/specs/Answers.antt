@@ -4,7 +4,8 @@ use Rattle.am_base.specs.Shelves.{Told, Takes, IsAtEnd}
 use Rattle.am_base.specs.Files.{OnFile, KeepsFiles}
 use Rattle.am_pcap.specs.Packets.{Packet}
 use Rattle.am_pcap.specs.Captures.{Summary, HasSummary, IsCapture}
-use Rattle.am_pcap.specs.Readings.{Reading, HasGiven, IsCut, AreRefused, most_read}
+use Rattle.am_pcap.specs.Readings.{Reading, HasGiven, IsCut, AreRefused}
+use Rattle.am_pcap.specs.declared.seeking.TheConstants.{MAX_READ}
 use Rattle.am_pcap.specs.CaptureFiles.{ReadsOn, IsWholeCapture, WhyStopped}
 use Rattle.am_pcap.specs.Shown.{packet_shown}
 use Rattle.am_pcap.specs.declared.refusal.CapError.{CapError}
@@ -18,7 +19,7 @@ pub record GivesRecord (old new : Reading) (before after : Option Told) (r : Rec
   pub goes_on : new.over ≡ false
   pub head : new.decoded.summary.head ≡ old.decoded.summary.head
   pub count : new.decoded.summary.count ≡ old.decoded.summary.count + 1
-  pub short : new.read ≤ most_read
+  pub short : new.read ≤ MAX_READ
   -- the bytes that were read for it
   pub more : List ℕ
   pub took : Takes before after more
@@ -33,27 +34,27 @@ pub record GivesEnd (old : Reading) (before after : Option Told) : Type 0 where
   pub took : Takes before after more
   pub at_end : IsAtEnd after
   pub whole : (bytes : List ℕ) (ps : List Packet) → HasGiven old bytes ps
-      → (h : Head) × (old.decoded.summary.head ≡ Some h) × IsCapture (bytes ++ more) h ps × (length (bytes ++ more) ≤ most_read)
+      → (h : Head) × (old.decoded.summary.head ≡ Some h) × IsCapture (bytes ++ more) h ps × (length (bytes ++ more) ≤ MAX_READ)
 
 -- a read failed: all whole records of what was read were given
 pub record GivesFault (old : Reading) (before after : Option Told) : Type 0 where
   pub more : List ℕ
   pub took : Takes before after more
   pub all : (bytes : List ℕ) (ps : List Packet) → HasGiven old bytes ps
-      → (s : Summary) × HasSummary (bytes ++ more) ps s × (length (bytes ++ more) ≤ most_read)
+      → (s : Summary) × HasSummary (bytes ++ more) ps s × (length (bytes ++ more) ≤ MAX_READ)
 
 -- more bytes were read than a capture may have
 pub record GivesTooLong (old : Reading) (before after : Option Told) : Type 0 where
   pub more : List ℕ
   pub took : Takes before after more
-  pub long : (bytes : List ℕ) (ps : List Packet) → HasGiven old bytes ps → most_read < length (bytes ++ more)
+  pub long : (bytes : List ℕ) (ps : List Packet) → HasGiven old bytes ps → MAX_READ < length (bytes ++ more)
 
 -- the capture is refused: its bytes say so, behind the packets that were given
 pub record GivesRefusal (old : Reading) (before after : Option Told) (e : CapError) : Type 0 where
   pub more : List ℕ
   pub took : Takes before after more
   pub refused : (bytes : List ℕ) (ps : List Packet) → HasGiven old bytes ps
-      → AreRefused e (bytes ++ more) ps × (IsCut e → IsAtEnd after) × (length (bytes ++ more) ≤ most_read)
+      → AreRefused e (bytes ++ more) ps × (IsCut e → IsAtEnd after) × (length (bytes ++ more) ≤ MAX_READ)
 
 -- why there is no next record
 abbrev pub GivesError : Reading → Option Told → Option Told → FileError → Type 0

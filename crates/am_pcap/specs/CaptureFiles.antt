@@ -5,9 +5,11 @@ use Rattle.am_base.specs.Files.{OnFile, IsPartRead, KeepsFiles}
 use Rattle.am_pcap.specs.Packets.{Packet, HoldsPackets}
 use Rattle.am_pcap.specs.Heads.{IsHead, IsRefusedHead}
 use Rattle.am_pcap.specs.Captures.{IsCapture, HasRecords, IsRefusedAfter}
-use Rattle.am_pcap.specs.Readings.{Reading, HasGiven, IsCut, most_read}
+use Rattle.am_pcap.specs.Readings.{Reading, HasGiven, IsCut}
+use Rattle.am_pcap.specs.declared.seeking.TheConstants.{MAX_READ}
 use Rattle.am_pcap.specs.declared.refusal.CapError.{CapError}
 use Rattle.am_pcap.specs.declared.refusal.CapError.TheVariants.{CutFile}
+use Rattle.am_pcap.specs.declared.head.TheConstants.{FILE_HEAD}
 use Rattle.am_pcap.specs.declared.head.Head.{Head}
 use Rattle.am_pcap.specs.declared.capture.FileError.{FileError}
 use Rattle.am_pcap.specs.declared.capture.FileError.TheVariants.{Missing, ReadFault, TooLong, Bad, Memory}
@@ -18,14 +20,14 @@ is_whole p = nat_le p.original (length p.bytes)
 
 -- the bytes begin with this file header
 pub record HasHead (bytes : List ℕ) (h : Head) : Type 0 where
-  pub whole : 24 ≤ length bytes
-  pub head : IsHead h (take 24 bytes)
+  pub whole : FILE_HEAD ≤ length bytes
+  pub head : IsHead h (take FILE_HEAD bytes)
 
 -- the bytes begin with this file header and whole records of these packets, and then comes the rest
 pub record Begins (bytes : List ℕ) (h : Head) (ps : List Packet) (rest : List ℕ) : Type 0 where
-  pub whole : 24 ≤ length bytes
-  pub head : IsHead h (take 24 bytes)
-  pub records : HoldsPackets h.form.big (drop 24 bytes) ps rest
+  pub whole : FILE_HEAD ≤ length bytes
+  pub head : IsHead h (take FILE_HEAD bytes)
+  pub records : HoldsPackets h.form.big (drop FILE_HEAD bytes) ps rest
 
 -- the bytes begin so, and a front of at most 2^40 of them does
 pub record BeginsWith (bytes : List ℕ) (h : Head) (ps : List Packet) : Type 0 where
@@ -33,7 +35,7 @@ pub record BeginsWith (bytes : List ℕ) (h : Head) (ps : List Packet) : Type 0 
   pub rest : List ℕ
   pub behind : List ℕ
   pub split : bytes ≡ front ++ rest
-  pub short : length front ≤ most_read
+  pub short : length front ≤ MAX_READ
   pub begins : Begins front h ps behind
   pub all : Begins bytes h ps (behind ++ rest)
 
@@ -43,12 +45,12 @@ IsFrontOf ps qs = (more : List Packet) × (qs ≡ ps ++ more)
 
 -- the bytes are a capture, and are at most 2^40
 pub record IsWholeCapture (bytes : List ℕ) (h : Head) (ps : List Packet) : Type 0 where
-  pub short : length bytes ≤ most_read
+  pub short : length bytes ≤ MAX_READ
   pub capture : IsCapture bytes h ps
 
 -- there are more bytes than a capture's file may have
 abbrev pub IsLong : List ℕ → Type 0
-IsLong bytes = most_read < length bytes
+IsLong bytes = MAX_READ < length bytes
 
 -- the bytes are refused so, behind whole records of these packets: a front of at most 2^40 of them is, and that they end
 -- too early is said only of all of them
@@ -56,13 +58,13 @@ pub record IsRefusedIn (bytes : List ℕ) (e : CapError) (ps : List Packet) : Ty
   pub front : List ℕ
   pub rest : List ℕ
   pub split : bytes ≡ front ++ rest
-  pub short : length front ≤ most_read
+  pub short : length front ≤ MAX_READ
   pub all : IsCut e → rest ≡ []
   pub refused : IsRefusedAfter e front ps
 
 -- the file header is refused so, or the bytes end in it
 abbrev pub IsRefusedHeader : List ℕ → CapError → Type 0
-IsRefusedHeader bytes e = ((24 ≤ length bytes) × IsRefusedHead e (take 24 bytes)) ⊎ ((length bytes < 24) × (e ≡ CutFile 0))
+IsRefusedHeader bytes e = ((FILE_HEAD ≤ length bytes) × IsRefusedHead e (take FILE_HEAD bytes)) ⊎ ((length bytes < FILE_HEAD) × (e ≡ CutFile 0))
 
 -- a capture of this file is read on: bytes of the file, as the shelf told it before, were read, their file header is this,
 -- and the whole records that were given of them have these packets
@@ -72,7 +74,7 @@ pub record ReadsOn (before now : Option Told) (name : List ℕ) (c : Reading) (h
   pub given : HasGiven c bytes ps
   pub goes_on : c.over ≡ false
   pub head : c.decoded.summary.head ≡ Some h
-  pub short : c.read ≤ most_read
+  pub short : c.read ≤ MAX_READ
   -- as many were given as are counted, the files are as they were, and the file begins so
   pub counted : c.decoded.summary.count ≡ length ps
   pub kept : KeepsFiles before now
@@ -105,7 +107,7 @@ WhyStopped before after name h ps Memory = ⊥
 pub record FailsOpen (before after : Option Told) (name : List ℕ) : Type 0 where
   pub bytes : List ℕ
   pub part : IsPartRead before after name bytes
-  pub few : length bytes < 24
+  pub few : length bytes < FILE_HEAD
 
 -- the file header of the file is refused so, or the file ends in it; of a file that isn't told the bytes that were read
 -- are, whatever follows them, and for want of more bytes only where none follow
@@ -114,7 +116,7 @@ pub record RefusesOpen (before after : Option Told) (name : List ℕ) (e : CapEr
   pub part : IsPartRead before after name bytes
   pub at_end : IsCut e → IsAtEnd after
   pub refused : (rest : List ℕ) → (IsCut e → rest ≡ []) → IsRefusedHeader (bytes ++ rest) e
-  pub short : length bytes ≤ most_read
+  pub short : length bytes ≤ MAX_READ
   pub file : OnFile before name (λ all. IsRefusedHeader all e)
 
 -- why the capture of this name was not opened

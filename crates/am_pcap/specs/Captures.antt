@@ -1,21 +1,23 @@
 -- What a list of bytes comes to as a capture: which records are whole in it, and what is left.
 use Rattle.std.specs.Prelude.{◌≡◌, ◌≢◌, ◌⊎◌, ℕ, ◌+◌, ◌<◌, ◌≤◌, Bool, List, [], ◌∷◌, length, take, drop, Option, Some, None, Result, Ok, Err}
-use Rattle.am_pcap.specs.Packets.{word, Packet, IsWhole, HoldsPackets, most_captured}
+use Rattle.am_pcap.specs.Packets.{word, Packet, IsWhole, HoldsPackets}
+use Rattle.am_pcap.specs.declared.decoder.TheConstants.{MAX_CAPTURED}
 use Rattle.am_pcap.specs.Heads.{IsHead, IsRefusedHead}
 use Rattle.am_pcap.specs.declared.refusal.CapError.{CapError}
 use Rattle.am_pcap.specs.declared.refusal.CapError.TheVariants.{RecordTooLong, CutFile}
+use Rattle.am_pcap.specs.declared.head.TheConstants.{FILE_HEAD}
 use Rattle.am_pcap.specs.declared.head.Head.{Head}
 
 -- the bytes are a capture: a file header that is taken, and whole records with these packets to the end
 pub record IsCapture (bytes : List ℕ) (h : Head) (ps : List Packet) : Type 0 where
-  pub whole : 24 ≤ length bytes
-  pub head : IsHead h (take 24 bytes)
-  pub records : HoldsPackets h.form.big (drop 24 bytes) ps []
+  pub whole : FILE_HEAD ≤ length bytes
+  pub head : IsHead h (take FILE_HEAD bytes)
+  pub records : HoldsPackets h.form.big (drop FILE_HEAD bytes) ps []
 
 -- the header of a record is there, and says more bytes than a record may have
 pub record IsTooLong (big : Bool) (bytes : List ℕ) : Type 0 where
   pub head : 16 ≤ length bytes
-  pub long : most_captured < word big bytes 8
+  pub long : MAX_CAPTURED < word big bytes 8
 
 -- the refusal, if there is one, of the record of this number, of which these bytes are there
 abbrev pub IsRecordError : Bool → ℕ → List ℕ → Option CapError → Type 0
@@ -33,22 +35,22 @@ pub record Summary : Type 0 where
 
 -- the bytes end inside the file header
 pub record EndsInHead (bytes : List ℕ) (ps : List Packet) (unfinished : List ℕ) : Type 0 where
-  pub short : length bytes < 24
+  pub short : length bytes < FILE_HEAD
   pub none : ps ≡ []
   pub rest : unfinished ≡ bytes
 
 -- the file header is refused
 pub record HasBadHead (bytes : List ℕ) (ps : List Packet) (unfinished : List ℕ) (e : CapError) : Type 0 where
-  pub whole : 24 ≤ length bytes
-  pub bad : IsRefusedHead e (take 24 bytes)
+  pub whole : FILE_HEAD ≤ length bytes
+  pub bad : IsRefusedHead e (take FILE_HEAD bytes)
   pub none : ps ≡ []
   pub rest : unfinished ≡ bytes
 
 -- behind this file header stand whole records with these packets, and then no other whole one
 pub record HasRecords (bytes : List ℕ) (ps : List Packet) (unfinished : List ℕ) (h : Head) (error : Option CapError) : Type 0 where
-  pub whole : 24 ≤ length bytes
-  pub head : IsHead h (take 24 bytes)
-  pub records : HoldsPackets h.form.big (drop 24 bytes) ps unfinished
+  pub whole : FILE_HEAD ≤ length bytes
+  pub head : IsHead h (take FILE_HEAD bytes)
+  pub records : HoldsPackets h.form.big (drop FILE_HEAD bytes) ps unfinished
   pub no_more : IsWhole h.form.big unfinished → ⊥
   pub refused : IsRecordError h.form.big (length ps + 1) unfinished error
 
@@ -85,27 +87,27 @@ WhyRefused big number rest e =
 
 -- behind a file header that is taken and whole records stands one that is refused
 pub record HasBadRecord (bytes : List ℕ) (e : CapError) : Type 0 where
-  pub whole : 24 ≤ length bytes
+  pub whole : FILE_HEAD ≤ length bytes
   pub h : Head
-  pub head : IsHead h (take 24 bytes)
+  pub head : IsHead h (take FILE_HEAD bytes)
   pub packets : List Packet
   pub rest : List ℕ
-  pub records : HoldsPackets h.form.big (drop 24 bytes) packets rest
+  pub records : HoldsPackets h.form.big (drop FILE_HEAD bytes) packets rest
   pub stuck : IsWhole h.form.big rest → ⊥
   pub why : WhyRefused h.form.big (length packets + 1) rest e
 
 -- why bytes are no capture: they end in the file header, or the file header is refused, or a record is
 abbrev pub IsRefused : CapError → List ℕ → Type 0
 IsRefused e bytes =
-    ((length bytes < 24) × (e ≡ CutFile 0))
-    ⊎ ((24 ≤ length bytes) × IsRefusedHead e (take 24 bytes))
+    ((length bytes < FILE_HEAD) × (e ≡ CutFile 0))
+    ⊎ ((FILE_HEAD ≤ length bytes) × IsRefusedHead e (take FILE_HEAD bytes))
     ⊎ HasBadRecord bytes e
 
 -- the same, and these are the packets of the whole records before what is refused
 abbrev pub IsRefusedAfter : CapError → List ℕ → List Packet → Type 0
 IsRefusedAfter e bytes ps =
-    ((length bytes < 24) × (e ≡ CutFile 0) × (ps ≡ []))
-    ⊎ ((24 ≤ length bytes) × IsRefusedHead e (take 24 bytes) × (ps ≡ []))
+    ((length bytes < FILE_HEAD) × (e ≡ CutFile 0) × (ps ≡ []))
+    ⊎ ((FILE_HEAD ≤ length bytes) × IsRefusedHead e (take FILE_HEAD bytes) × (ps ≡ []))
     ⊎ ((bad : HasBadRecord bytes e) × (bad.packets ≡ ps))
 
 -- what bytes are: a capture, or refused

@@ -1,8 +1,10 @@
 -- What a decoder of a capture has, and how it goes on with the bytes that it takes.
 use Rattle.std.specs.Prelude.{◌≡◌, ℕ, ◌+◌, ◌*◌, ◌<◌, ◌≤◌, ◌^◌, Bool, true, false, List, [], ◌∷◌, ◌++◌, length, take, ⊤, Option, Some, None, cond, IsSome}
-use Rattle.am_pcap.specs.Packets.{word, Packet, IsWhole, first_packet, most_captured}
+use Rattle.am_pcap.specs.Packets.{word, Packet, IsWhole, first_packet}
+use Rattle.am_pcap.specs.declared.decoder.TheConstants.{MAX_CAPTURED}
 use Rattle.am_pcap.specs.Captures.{Summary, HasSummary}
 use Rattle.am_pcap.specs.declared.refusal.CapError.{CapError}
+use Rattle.am_pcap.specs.declared.head.TheConstants.{FILE_HEAD}
 use Rattle.am_pcap.specs.declared.head.Head.{Head}
 
 -- the summary of the bytes that were taken, and the packet of the last record, where it waits to be taken out
@@ -45,7 +47,7 @@ pub record Took (old new : Decoded) (piece : List ℕ) (n : ℕ) : Type 0 where
 
 -- the bytes of the file header, or of a record's header where the file header was taken
 abbrev pub head_length : Option Head → ℕ
-head_length None = 24
+head_length None = FILE_HEAD
 head_length (Some h) = 16
 
 -- it refused: it took bytes up to the end of the header that is refused, with no whole record among them, and keeps the
@@ -100,9 +102,9 @@ pub record IsSound (capacity : ℕ) (buffer : List ℕ) (head : Option Head) (er
   pub few : taken ≤ 2 ^ 63
   pub counted : 16 * count ≤ taken
   pub partial : full ≡ false → 16 * count + length buffer ≤ taken
-  pub in_head : head ≡ None → error ≡ None → length buffer < 24
+  pub in_head : head ≡ None → error ≡ None → length buffer < FILE_HEAD
   pub not_full : head ≡ None → full ≡ false
   pub refused : (e : CapError) → error ≡ Some e → full ≡ false
-  pub in_record : (h : Head) → head ≡ Some h → error ≡ None → full ≡ false → 16 ≤ length buffer → (word h.form.big buffer 8 ≤ most_captured) × (length buffer < 16 + word h.form.big buffer 8)
+  pub in_record : (h : Head) → head ≡ Some h → error ≡ None → full ≡ false → 16 ≤ length buffer → (word h.form.big buffer 8 ≤ MAX_CAPTURED) × (length buffer < 16 + word h.form.big buffer 8)
   pub whole : (h : Head) → head ≡ Some h → full ≡ true → IsWhole h.form.big buffer × (length buffer ≡ 16 + word h.form.big buffer 8)
   pub waits : waiting ≡ true → full ≡ true

@@ -16,14 +16,10 @@ pub record Packet : Type 0 where
   pub original : ℕ
   pub bytes : List ℕ
 
--- the most bytes of a packet that a record may have
-abbrev pub most_captured : ℕ
-most_captured = MAX_CAPTURED
-
 -- the bytes begin with a whole record: its header of 16 bytes, and as many bytes behind it as that says, which are not too many
 pub record IsWhole (big : Bool) (bytes : List ℕ) : Type 0 where
   pub head : 16 ≤ length bytes
-  pub not_long : word big bytes 8 ≤ most_captured
+  pub not_long : word big bytes 8 ≤ MAX_CAPTURED
   pub body : 16 + word big bytes 8 ≤ length bytes
 
 -- the packet of the record that the bytes begin with

@@ -5,11 +5,6 @@ use Rattle.am_pcap.specs.Captures.{HasSummary, IsRefusedAfter}
 use Rattle.am_pcap.specs.Decoded.{Decoded}
 use Rattle.am_pcap.specs.declared.refusal.CapError.{CapError}
 use Rattle.am_pcap.specs.declared.refusal.CapError.TheVariants.{CutFile}
-use Rattle.am_pcap.specs.declared.seeking.TheConstants.{MAX_READ}
-
--- the most bytes of a capture's file
-abbrev pub most_read : ℕ
-most_read = MAX_READ
 
 -- what a capture has: what its decoder has, the bytes that were read and that the decoder didn't take yet, how many were
 -- read, and whether it came to its end or to an error

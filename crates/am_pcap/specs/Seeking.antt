@@ -4,32 +4,34 @@ use Rattle.am_base.specs.Shelves.{Told, Takes, IsAtEnd}
 use Rattle.am_pcap.specs.Packets.{Packet}
 use Rattle.am_pcap.specs.Captures.{HasSummary}
 use Rattle.am_pcap.specs.Decoded.{Decoded}
-use Rattle.am_pcap.specs.Readings.{Reading, IsCut, AreRefused, most_read}
+use Rattle.am_pcap.specs.Readings.{Reading, IsCut, AreRefused}
+use Rattle.am_pcap.specs.declared.seeking.TheConstants.{MAX_READ}
 use Rattle.am_pcap.specs.CaptureFiles.{IsRefusedHeader}
 use Rattle.am_pcap.specs.Answers.{GivesEnd}
 use Rattle.am_pcap.specs.declared.refusal.CapError.{CapError}
+use Rattle.am_pcap.specs.declared.head.TheConstants.{FILE_HEAD}
 use Rattle.am_pcap.specs.declared.head.Head.{Head}
 use Rattle.am_pcap.specs.declared.capture.FileError.{FileError}
 use Rattle.am_pcap.specs.declared.capture.FileError.TheVariants.{Missing, ReadFault, TooLong, Bad, Memory}
 use Rattle.am_pcap.specs.declared.seeking.Step.{Step}
 use Rattle.am_pcap.specs.declared.seeking.Step.TheVariants.{Waits, Ends, Continues}
 
--- a capture that goes on: its decoder, what is held and how much was read fit together
-pub record InOrder (d : Decoded) (held : List ℕ) (read : ℕ) : Type 0 where
-  pub clean : d.summary.error ≡ None
-  pub none_waits : d.waiting ≡ None
-  pub all : d.summary.taken + length held ≡ read
-  pub short : read ≤ most_read
-  pub few : 16 * d.summary.count ≤ d.summary.taken
-
--- what is true of a capture at all times
-pub record IsInOrder (d : Decoded) (held : List ℕ) (h : Head) (read : ℕ) (over : Bool) : Type 0 where
-  pub head : d.summary.head ≡ Some h
-  pub going : over ≡ false → InOrder d held read
-
--- a capture of these parts
+-- a capture of these parts, which goes on
 abbrev pub reading_with : Decoded → List ℕ → ℕ → Reading
 reading_with d held read = record { decoded = d; held = held; read = read; over = false }
+
+-- a capture that goes on: its decoder, what is held and how much was read fit together
+pub record InOrder (c : Reading) : Type 0 where
+  pub clean : c.decoded.summary.error ≡ None
+  pub none_waits : c.decoded.waiting ≡ None
+  pub all : c.decoded.summary.taken + length c.held ≡ c.read
+  pub short : c.read ≤ MAX_READ
+  pub few : 16 * c.decoded.summary.count ≤ c.decoded.summary.taken
+
+-- what is true of a capture at all times
+pub record IsInOrder (c : Reading) (h : Head) : Type 0 where
+  pub head : c.decoded.summary.head ≡ Some h
+  pub going : c.over ≡ false → InOrder (reading_with c.decoded c.held c.read)
 
 -- these bytes were read: those that the decoder took, whose whole records have these packets, and those that are held
 pub record WereRead (d : Decoded) (held bytes : List ℕ) (ps : List Packet) : Type 0 where
@@ -67,54 +69,55 @@ DrainsTo d held e = (bytes : List ℕ) (ps : List Packet) → WereRead d held by
 abbrev pub RefillFails : ℕ → Option Told → Option Told → FileError → Type 0
 RefillFails read before after Missing = ⊥
 RefillFails read before after ReadFault = after ≡ before
-RefillFails read before after TooLong = (more : List ℕ) × Takes before after more × (most_read < read + length more)
+RefillFails read before after TooLong = (more : List ℕ) × Takes before after more × (MAX_READ < read + length more)
 RefillFails read before after (Bad e) = ⊥
 RefillFails read before after Memory = ⊥
 
--- a capture came from parts to parts by reading these bytes, with nothing given yet
-pub record Continued (d : Decoded) (held : List ℕ) (read : ℕ) (d' : Decoded) (held' : List ℕ) (read' : ℕ) (before after : Option Told) : Type 0 where
-  pub order : InOrder d' held' read'
-  pub head : d'.summary.head ≡ d.summary.head
-  pub count : d'.summary.count ≡ d.summary.count
+-- a capture came from the old parts to the new ones by reading these bytes, with nothing given yet
+pub record Continued (old new : Reading) (before after : Option Told) : Type 0 where
+  pub order : InOrder new
+  pub head : new.decoded.summary.head ≡ old.decoded.summary.head
+  pub count : new.decoded.summary.count ≡ old.decoded.summary.count
   pub more : List ℕ
   pub took : Takes before after more
-  pub moves : (bytes : List ℕ) (ps : List Packet) → WereRead d held bytes ps → WereRead d' held' (bytes ++ more) ps
+  pub moves : (bytes : List ℕ) (ps : List Packet) → WereRead old.decoded old.held bytes ps → WereRead new.decoded new.held (bytes ++ more) ps
 
 -- a record came to wait
-pub record Found (d : Decoded) (held : List ℕ) (read : ℕ) (d' : Decoded) (held' : List ℕ) (read' : ℕ) (before after : Option Told) : Type 0 where
-  pub clean : d'.summary.error ≡ None
-  pub head : d'.summary.head ≡ d.summary.head
-  pub count : d'.summary.count ≡ d.summary.count + 1
-  pub all : d'.summary.taken + length held' ≡ read'
-  pub short : read' ≤ most_read
-  pub few : 16 * d'.summary.count ≤ d'.summary.taken
+pub record Found (old new : Reading) (before after : Option Told) : Type 0 where
+  pub clean : new.decoded.summary.error ≡ None
+  pub head : new.decoded.summary.head ≡ old.decoded.summary.head
+  pub count : new.decoded.summary.count ≡ old.decoded.summary.count + 1
+  pub all : new.decoded.summary.taken + length new.held ≡ new.read
+  pub short : new.read ≤ MAX_READ
+  pub few : 16 * new.decoded.summary.count ≤ new.decoded.summary.taken
   pub packet : Packet
-  pub waits : d'.waiting ≡ Some packet
+  pub waits : new.decoded.waiting ≡ Some packet
   pub more : List ℕ
   pub took : Takes before after more
-  pub moves : (bytes : List ℕ) (ps : List Packet) → WereRead d held bytes ps → WereRead d' held' (bytes ++ more) (ps ++ packet ∷ [])
+  pub moves : (bytes : List ℕ) (ps : List Packet) → WereRead old.decoded old.held bytes ps
+      → WereRead new.decoded new.held (bytes ++ more) (ps ++ packet ∷ [])
 
 -- what one step came to
-abbrev pub Steps : Decoded → List ℕ → ℕ → Decoded → List ℕ → ℕ → Option Told → Option Told → Step → Type 0
-Steps d held read d' held' read' before after Waits = Found d held read d' held' read' before after
-Steps d held read d' held' read' before after Ends = GivesEnd (reading_with d held read) before after
-Steps d held read d' held' read' before after Continues = Continued d held read d' held' read' before after × (read < read')
+abbrev pub Steps : Reading → Reading → Option Told → Option Told → Step → Type 0
+Steps old new before after Waits = Found old new before after
+Steps old new before after Ends = GivesEnd old before after
+Steps old new before after Continues = Continued old new before after × (old.read < new.read)
 
 -- what a search came to: a record waits, or the file is at its end
-abbrev pub Sought : Decoded → List ℕ → ℕ → Decoded → List ℕ → ℕ → Option Told → Option Told → Bool → Type 0
-Sought d held read d' held' read' before after false = GivesEnd (reading_with d held read) before after
-Sought d held read d' held' read' before after true = Found d held read d' held' read' before after
+abbrev pub Sought : Reading → Reading → Option Told → Option Told → Bool → Type 0
+Sought old new before after false = GivesEnd old before after
+Sought old new before after true = Found old new before after
 
--- a decoder that took the first bytes of a file, of which the file header isn't whole, and nothing is held
-pub record HeadUnread (d : Decoded) (held : List ℕ) (read : ℕ) : Type 0 where
-  pub head : d.summary.head ≡ None
-  pub clean : d.summary.error ≡ None
-  pub none_waits : d.waiting ≡ None
-  pub none_held : held ≡ []
-  pub all : d.summary.taken ≡ read
-  pub few : read < 24
+-- a capture whose decoder took the first bytes of a file, of which the file header isn't whole, and nothing is held
+pub record HeadUnread (c : Reading) : Type 0 where
+  pub head : c.decoded.summary.head ≡ None
+  pub clean : c.decoded.summary.error ≡ None
+  pub none_waits : c.decoded.waiting ≡ None
+  pub none_held : c.held ≡ []
+  pub all : c.decoded.summary.taken ≡ c.read
+  pub few : c.read < FILE_HEAD
   pub bytes : List ℕ
-  pub summary : HasSummary bytes [] d.summary
+  pub summary : HasSummary bytes [] c.decoded.summary
 
 -- the decoder took what was missing of the file header, or all that was held
 pub record HeadFed (d : Decoded) (held : List ℕ) (d' : Decoded) (held' : List ℕ) : Type 0 where
@@ -122,7 +125,7 @@ pub record HeadFed (d : Decoded) (held : List ℕ) (d' : Decoded) (held' : List 
   pub none_waits : d'.waiting ≡ None
   pub count : d'.summary.count ≡ 0
   pub all : d'.summary.taken + length held' ≡ d.summary.taken + length held
-  pub missing : d'.summary.head ≡ None → (held' ≡ []) × (d'.summary.taken < 24)
+  pub missing : d'.summary.head ≡ None → (held' ≡ []) × (d'.summary.taken < FILE_HEAD)
   pub moves : (bytes : List ℕ) → HasSummary bytes [] d.summary → WereRead d' held' (bytes ++ held) []
 
 -- the file header is refused, whatever bytes follow those that are held
@@ -131,26 +134,26 @@ pub record HeadBad (d : Decoded) (held : List ℕ) (e : CapError) : Type 0 where
   pub refused : (bytes rest : List ℕ) → HasSummary bytes [] d.summary → IsRefusedHeader ((bytes ++ held) ++ rest) e
 
 -- the file header is whole, and is this one
-pub record HeadFound (d d' : Decoded) (held' : List ℕ) (read' : ℕ) (before after : Option Told) (h : Head) : Type 0 where
-  pub order : InOrder d' held' read'
-  pub head : d'.summary.head ≡ Some h
-  pub count : d'.summary.count ≡ 0
+pub record HeadFound (old new : Reading) (before after : Option Told) (h : Head) : Type 0 where
+  pub order : InOrder new
+  pub head : new.decoded.summary.head ≡ Some h
+  pub count : new.decoded.summary.count ≡ 0
   pub more : List ℕ
   pub took : Takes before after more
-  pub moves : (bytes : List ℕ) → HasSummary bytes [] d.summary → WereRead d' held' (bytes ++ more) []
+  pub moves : (bytes : List ℕ) → HasSummary bytes [] old.decoded.summary → WereRead new.decoded new.held (bytes ++ more) []
 
 -- bytes of the file header were read, and it isn't whole yet
-pub record HeadGrown (d d' : Decoded) (held' : List ℕ) (read' : ℕ) (before after : Option Told) : Type 0 where
-  pub unread : HeadUnread d' held' read'
+pub record HeadGrown (old new : Reading) (before after : Option Told) : Type 0 where
+  pub unread : HeadUnread new
   pub more : List ℕ
   pub took : Takes before after more
-  pub moves : (bytes : List ℕ) → HasSummary bytes [] d.summary → HasSummary (bytes ++ more) [] d'.summary
+  pub moves : (bytes : List ℕ) → HasSummary bytes [] old.decoded.summary → HasSummary (bytes ++ more) [] new.decoded.summary
 
 -- a read failed before the file header was whole
 pub record HeadFault (d : Decoded) (before after : Option Told) : Type 0 where
   pub more : List ℕ
   pub took : Takes before after more
-  pub few : (bytes : List ℕ) → HasSummary bytes [] d.summary → length (bytes ++ more) < 24
+  pub few : (bytes : List ℕ) → HasSummary bytes [] d.summary → length (bytes ++ more) < FILE_HEAD
 
 -- the file header isn't whole at the end of the file, or is refused
 pub record HeadRefused (d : Decoded) (before after : Option Told) (e : CapError) : Type 0 where
@@ -158,7 +161,7 @@ pub record HeadRefused (d : Decoded) (before after : Option Told) (e : CapError)
   pub took : Takes before after more
   pub at_end : IsCut e → IsAtEnd after
   pub refused : (bytes rest : List ℕ) → HasSummary bytes [] d.summary → (IsCut e → rest ≡ []) → IsRefusedHeader ((bytes ++ more) ++ rest) e
-  pub short : (bytes : List ℕ) → HasSummary bytes [] d.summary → length (bytes ++ more) ≤ most_read
+  pub short : (bytes : List ℕ) → HasSummary bytes [] d.summary → length (bytes ++ more) ≤ MAX_READ
 
 -- why the file header can't be had
 abbrev pub HeadFails : Decoded → Option Told → Option Told → FileError → Type 0
@@ -169,6 +172,6 @@ HeadFails d before after (Bad e) = HeadRefused d before after e
 HeadFails d before after Memory = ⊥
 
 -- what one step towards the file header came to
-abbrev pub HeadSteps : Decoded → ℕ → Decoded → List ℕ → ℕ → Option Told → Option Told → Option Head → Type 0
-HeadSteps d read d' held' read' before after None = HeadGrown d d' held' read' before after × (read < read')
-HeadSteps d read d' held' read' before after (Some h) = HeadFound d d' held' read' before after h
+abbrev pub HeadSteps : Reading → Reading → Option Told → Option Told → Option Head → Type 0
+HeadSteps old new before after None = HeadGrown old new before after × (old.read < new.read)
+HeadSteps old new before after (Some h) = HeadFound old new before after h

@@ -1,7 +1,8 @@
 -- The bytes of a record, in the file's byte order (the pcap savefile format).
 use Rattle.std.specs.Prelude.{◌≡◌, ℕ, ◌^◌, ◌<◌, ◌≤◌, Bool, List, ◌++◌, length, cond, flat_map, All, slice_index}
 use Rattle.std.specs.Int.{w32, to_be_bytes, to_le_bytes}
-use Rattle.am_pcap.specs.Packets.{Packet, most_captured}
+use Rattle.am_pcap.specs.Packets.{Packet}
+use Rattle.am_pcap.specs.declared.decoder.TheConstants.{MAX_CAPTURED}
 use Rattle.am_pcap.specs.declared.head.Head.{Head}
 
 -- the four bytes of a number
@@ -26,7 +27,7 @@ pub record FitsRecord (p : Packet) : Type 0 where
   pub seconds : p.seconds < 2 ^ 32
   pub fraction : p.fraction < 2 ^ 32
   pub original : p.original < 2 ^ 32
-  pub captured : length p.bytes ≤ most_captured
+  pub captured : length p.bytes ≤ MAX_CAPTURED
 
 -- each number of the packet's bytes is a byte
 abbrev pub HasBytes : Packet → Type 0

@@ -2,11 +2,11 @@
 ghost use Rattle.std.specs.Prelude.{◌≡◌, ◌+◌, ◌*◌, ◌<◌, ◌≤◌, ◌^◌, ℕ, List, [], ◌++◌, length, take, drop, false, Some, None, Ok, IfOk, IfErr, IfSome, IfNone, IsErrOf, IsTrue, OnOk, OnErr};
 ghost use Rattle.std.specs.Borrow.{sem};
 ghost use Rattle.am_base.specs.Counts.{Rose};
-ghost use Rattle.am_base.specs.Shelves.{IsAbsent, Takes, IsAtEnd};
+ghost use Rattle.am_base.specs.Shelves.{IsAbsent};
 ghost use Rattle.am_base.specs.Files.{KeepsFiles};
 ghost use Rattle.am_pcap.specs.Readings.{Reading};
 ghost use Rattle.am_pcap.specs.CaptureFiles.{ReadsOn, WhyNotOpened};
-ghost use Rattle.am_pcap.specs.Answers.{GivesRecord, GivesEnd, GivesError, EndsReading, StopsReading};
+ghost use Rattle.am_pcap.specs.Answers.{GivesEnd, GivesError, EndsReading, StopsReading};
 ghost use Rattle.am_pcap.specs.declared.head.Head.{Head};
 ghost use Rattle.am_pcap.specs.declared.capture.FileError.TheVariants.{Missing, ReadFault};
 
@@ -19,9 +19,6 @@ use crate::seeking::{open_head, seek};
 use am_base::{OpenError, Shelf};
 use std::alloc::Global;
 use std::marker::Model;
-
-#[cfg(test)]
-mod tests;
 
 /// Why a capture's file could not be read on.
 #[derive(Clone, Copy, Debug, PartialEq, Eq)]
@@ -59,7 +56,8 @@ impl Model for Capture {
     ghost view = { λ a.
         record { decoded = a.decoder; held = a.held; read = a.read; over = a.over } };
 
-    ghost invariant = { λ a. IsInOrder a.decoder a.held a.head a.read a.over };
+    ghost invariant = { λ a. IsInOrder
+        (record { decoded = a.decoder; held = a.held; read = a.read; over = a.over }) a.head };
 }
 
 impl Capture {
@@ -74,7 +72,8 @@ impl Capture {
             × ReadsOn (S.told shelf.old) (S.told shelf.new) name.now c h []) }
         ensures refused { IfErr result (λ e.
             WhyNotOpened (S.told shelf.old) (S.told shelf.new) name.now e) }
-        ensures missing { IsErrOf result Missing → (Rose (S.missed shelf.old) (S.missed shelf.new))
+        ensures missing { IsErrOf result Missing
+            → (Rose (S.missed shelf.old) (S.missed shelf.new))
             × IsAbsent (S.told shelf.old) name.now }
         ensures read_fault { IsErrOf result ReadFault
             → Rose (S.faults shelf.old) (S.faults shelf.new) }

@@ -2,29 +2,23 @@
 ghost use Rattle.std.specs.Prelude.{◌≡◌, ◌+◌, ◌-◌, ◌*◌, ◌<◌, ◌≤◌, ◌^◌, ◌++◌, ℕ, List, [], length, take, min, Some, None, Ok, Err, IsSome, IsTrue, ◌↔◌, IfOk, IfErr, IfSome, IfNone, OnOk, OnSome, MatchOption, vec_len, vec_capacity, cond};
 ghost use Rattle.std.specs.Borrow.{sem};
 ghost use Rattle.am_pcap.specs.Captures.{verdict, IsVerdict};
-ghost use Rattle.am_pcap.specs.Decoded.{Decoded, nothing_taken, after_take, CanTake, Took, Refused, Passed, Counts, Goes, StandsFor, head_length};
+ghost use Rattle.am_pcap.specs.Decoded.{Decoded, nothing_taken, after_take, CanTake, Took, Refused, Passed, Counts, StandsFor};
 ghost use Rattle.am_pcap.specs.Packets.{word, IsWhole, first_packet};
 ghost use Rattle.am_pcap.specs.Shown.{packet_shown};
 ghost use Rattle.am_pcap.specs.declared.refusal.CapError.{CapError};
 
-use crate::head::{Head, judge, word_at};
+use crate::head::{FILE_HEAD, Head, judge, word_at};
 use crate::record::Record;
 use crate::refusal::CapError;
 use std::alloc::{AllocError, Global};
 use std::marker::Model;
-
-#[cfg(test)]
-mod tests;
-
-/// The bytes of a file header.
-const FILE_HEAD: usize = 24;
 
 /// The bytes of a record's header.
 pub const RECORD_HEAD: usize = 16;
 
 /// The most bytes of a packet that a record may have: what the capturing programs write at most (their snapshot length
 /// when none is asked for). A length above it is taken for a sign that the bytes are no record.
-pub(crate) const MAX_CAPTURED: u32 = 262_144;
+pub const MAX_CAPTURED: u32 = 262_144;
 
 /// What a decoder has room for: a record's header and the most bytes after it.
 const ROOM: usize = 262_160;
@@ -309,11 +303,11 @@ fn empty_where(asked: bool, buffer: &mut Vec<u8>)
 }
 
 // The bytes as an array.
-fn front(bytes: &[u8]) -> [u8; 24]
-    requires { length bytes.now ≡ 24 }
+fn front(bytes: &[u8]) -> [u8; FILE_HEAD]
+    requires { length bytes.now ≡ FILE_HEAD }
     ensures { result ≡ bytes.now }
 {
-    let mut raw = [0; 24];
+    let mut raw = [0; FILE_HEAD];
     raw.copy_from_slice(bytes);
     raw
 }

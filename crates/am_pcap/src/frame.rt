@@ -4,9 +4,6 @@ ghost use Rattle.am_pcap.specs.Frames as frames;
 ghost use Rattle.am_pcap.specs.declared.frame.Frame.{Frame};
 ghost use Rattle.am_pcap.specs.Frames.{IsFramed, IsWithin, HasTag, IsTypePlace, TypeSays, VersionSays};
 
-#[cfg(test)]
-mod tests;
-
 /// What the packets of a capture begin with.
 #[derive(Clone, Copy, Debug, PartialEq, Eq)]
 pub enum LinkKind {

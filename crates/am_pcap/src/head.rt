@@ -10,11 +10,14 @@ use crate::frame::LinkKind;
 use crate::record::Form;
 use crate::refusal::CapError;
 
+/// The bytes of a file header.
+pub const FILE_HEAD: usize = 24;
+
 /// The header of a capture's file.
 #[derive(Clone, Copy, Debug, PartialEq, Eq)]
 pub struct Head {
     /// Its 24 bytes, as they stand in the file.
-    pub raw: [u8; 24],
+    pub raw: [u8; FILE_HEAD],
     /// How the numbers of the file are written.
     pub form: Form,
     /// What the packets of the file begin with.
@@ -50,7 +53,7 @@ const BIG_NANO: Form = Form {
 /// The 24 bytes of a file header of this form and link type, in the form's byte order: zone and accuracy are 0, the
 /// snapshot length is 262,144, and the upper 16 bits of the link type are 0.
 #[tactic(auto, unfolding(crate::specs::Packets::word, crate::specs::Heads::half_word))]
-pub fn file_head(form: Form, link: LinkKind) -> [u8; 24]
+pub fn file_head(form: Form, link: LinkKind) -> [u8; FILE_HEAD]
     ensures read_back { IsHead (record { raw = result; form = form; link = link }) result }
     ensures zone { word form.big result 8 ≡ 0 }
     ensures accuracy { word form.big result 12 ≡ 0 }
@@ -104,7 +107,7 @@ pub fn record_head(
 }
 
 // What 24 bytes are as a file header: magic, then version, then link type.
-pub fn judge(raw: [u8; 24]) -> Result<Head, CapError>
+pub fn judge(raw: [u8; FILE_HEAD]) -> Result<Head, CapError>
     ensures { IsJudged result raw }
 {
     let Some(form) = form_of(&raw) else {
@@ -126,7 +129,7 @@ pub fn judge(raw: [u8; 24]) -> Result<Head, CapError>
 // The form whose magic stands at the front.
 #[tactic(auto, using(crate::proofs::Judged::no_form))]
 fn form_of(bytes: &[u8]) -> Option<Form>
-    requires { length bytes.now ≡ 24 }
+    requires { length bytes.now ≡ FILE_HEAD }
     ensures { SomeMagic result bytes.now }
 {
     if has_magic(bytes, LITTLE_MICRO) {
@@ -146,7 +149,7 @@ fn form_of(bytes: &[u8]) -> Option<Form>
 
 // Whether the magic of a form stands at the front.
 fn has_magic(bytes: &[u8], form: Form) -> bool
-    requires { length bytes.now ≡ 24 }
+    requires { length bytes.now ≡ FILE_HEAD }
     ensures { IsTrue result ↔ HasMagic form bytes.now }
 {
     let word = word_bytes(form.big, magic(form.nano));
@@ -155,7 +158,7 @@ fn has_magic(bytes: &[u8], form: Form) -> bool
 
 // The lower 16 bits of the link type.
 fn link_at(big: bool, bytes: &[u8]) -> u16
-    requires { length bytes.now ≡ 24 }
+    requires { length bytes.now ≡ FILE_HEAD }
     ensures { result ≡ link_bits big bytes.now }
 {
     (word_at(big, bytes, 20) % 65_536) as u16

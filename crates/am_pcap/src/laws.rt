@@ -11,6 +11,8 @@ ghost use Rattle.am_pcap.specs.declared.frame.LinkKind.{LinkKind};
 ghost use Rattle.am_pcap.specs.declared.head.Head.{Head};
 ghost use Rattle.am_pcap.specs.declared.refusal.CapError.{CapError};
 
+use crate::head::FILE_HEAD;
+
 /// Bytes that are a capture have one file header and one list of packets, and are not refused. Bytes that are refused
 /// are so for one reason, behind one list of packets, and behind none where the file header is refused.
 pub fn captures_are_one()
@@ -20,7 +22,8 @@ pub fn captures_are_one()
         → IsCapture bytes h ps → IsRefusedIn bytes e qs → ⊥ }
     ensures refused_once { (bytes : List ℕ) (d e : CapError) (ps qs : List Packet)
         → IsRefusedIn bytes d ps → IsRefusedIn bytes e qs → (d ≡ e) × (ps ≡ qs) }
-    ensures header { (bytes : List ℕ) (e : CapError) → IsRefusedHeader bytes e → IsRefusedIn bytes e [] }
+    ensures header { (bytes : List ℕ) (e : CapError) → IsRefusedHeader bytes e
+        → IsRefusedIn bytes e [] }
 {}
 
 /// What bytes begin with: their file header is one, and is not refused. A capture's packets, and those before what is
@@ -51,7 +54,9 @@ pub fn frames_are_one()
 /// spelled are read back.
 pub fn captures_are_spelled()
     ensures spelled { (bytes : List ℕ) (h : Head) (ps : List Packet)
-        → ((k : ℕ) → slice_index bytes k < 2 ^ 8) → IsCapture bytes h ps → IsSpelled bytes h ps }
+        → ((k : ℕ) → slice_index bytes k < 2 ^ 8) → IsCapture bytes h ps
+        → IsSpelled bytes h ps }
     ensures read_back { (h : Head) (ps : List Packet)
-        → length h.raw ≡ 24 → IsHead h h.raw → All FitsRecord ps → IsCapture (capture_bytes h ps) h ps }
+        → length h.raw ≡ FILE_HEAD → IsHead h h.raw → All FitsRecord ps
+        → IsCapture (capture_bytes h ps) h ps }
 {}

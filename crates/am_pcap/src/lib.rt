@@ -16,14 +16,13 @@ mod laws;
 mod message;
 mod record;
 mod refusal;
-#[cfg(test)]
-mod samples;
 mod seeking;
 
 pub use capture::{Capture, FileError};
-pub use decoder::Decoder;
+pub use decoder::{Decoder, MAX_CAPTURED};
 pub use frame::{Frame, LinkKind, packet_of};
-pub use head::{Head, file_head, record_head};
+pub use head::{FILE_HEAD, Head, file_head, record_head};
 pub use laws::{beginnings_agree, captures_are_one, captures_are_spelled, frames_are_one};
 pub use record::{Form, Record};
 pub use refusal::CapError;
+pub use seeking::MAX_READ;

@@ -4,24 +4,20 @@ ghost use Rattle.am_base.specs.Counts.{Rose};
 ghost use Rattle.am_base.specs.Shelves.{Takes, IsAtEnd};
 ghost use Rattle.am_pcap.specs.Captures.{HasSummary};
 ghost use Rattle.am_pcap.specs.Decoded.{CanTake};
-ghost use Rattle.am_pcap.specs.Readings.{most_read};
 ghost use Rattle.am_pcap.specs.Answers.{GivesError};
 ghost use Rattle.am_pcap.specs.Seeking.{InOrder, Drains, DrainsTo, RefillFails, HeadUnread, HeadFed, HeadBad, HeadFound, HeadFails, HeadSteps, Steps, Sought, reading_with};
 ghost use Rattle.am_pcap.specs.declared.capture.FileError.TheVariants.{ReadFault};
 
 use crate::capture::FileError;
 use crate::decoder::Decoder;
-use crate::head::Head;
+use crate::head::{FILE_HEAD, Head};
 use crate::held::Held;
 use crate::refusal::CapError;
 use am_base::Shelf;
 
 /// The most bytes of a capture's file: 2^40. So every number of a record and every sum of counts stays far within its
 /// type.
-pub(crate) const MAX_READ: u64 = 1 << 40;
-
-/// The bytes of a file header.
-const FILE_HEAD: usize = 24;
+pub const MAX_READ: u64 = 1 << 40;
 
 /// What a step came to.
 #[derive(Clone, Copy, Debug, PartialEq, Eq)]
@@ -41,13 +37,15 @@ pub fn open_head<S: Shelf>(
     read: &mut u64,
     shelf: &mut S,
 ) -> Result<Head, FileError>
-    requires { HeadUnread decoder.old held.old read.old }
+    requires { HeadUnread (reading_with decoder.old held.old read.old) }
     ensures found { IfOk result (λ h.
-        HeadFound decoder.old decoder.new held.new read.new
+        HeadFound (reading_with decoder.old held.old read.old)
+        (reading_with decoder.new held.new read.new)
         (S.told shelf.old) (S.told shelf.new) h) }
     ensures fails { IfErr result (λ e.
         HeadFails decoder.old (S.told shelf.old) (S.told shelf.new) e) }
-    ensures read_fault { IsErrOf result ReadFault → Rose (S.faults shelf.old) (S.faults shelf.new) }
+    ensures read_fault { IsErrOf result ReadFault
+        → Rose (S.faults shelf.old) (S.faults shelf.new) }
     ensures faults_stay { S.faults shelf.old ≤ S.faults shelf.new }
     ensures missed_stay { S.missed shelf.old ≤ S.missed shelf.new }
 {
@@ -67,13 +65,15 @@ fn head_step<S: Shelf>(
     read: &mut u64,
     shelf: &mut S,
 ) -> Result<Option<Head>, FileError>
-    requires { HeadUnread decoder.old held.old read.old }
+    requires { HeadUnread (reading_with decoder.old held.old read.old) }
     ensures steps { IfOk result (λ o.
-        HeadSteps decoder.old read.old decoder.new held.new read.new
+        HeadSteps (reading_with decoder.old held.old read.old)
+        (reading_with decoder.new held.new read.new)
         (S.told shelf.old) (S.told shelf.new) o) }
     ensures fails { IfErr result (λ e.
         HeadFails decoder.old (S.told shelf.old) (S.told shelf.new) e) }
-    ensures read_fault { IsErrOf result ReadFault → Rose (S.faults shelf.old) (S.faults shelf.new) }
+    ensures read_fault { IsErrOf result ReadFault
+        → Rose (S.faults shelf.old) (S.faults shelf.new) }
     ensures faults_stay { S.faults shelf.old ≤ S.faults shelf.new }
     ensures missed_stay { S.missed shelf.old ≤ S.missed shelf.new }
 {
@@ -97,7 +97,7 @@ fn feed_head(decoder: &mut Decoder, held: &mut Held, missing: usize) -> Result<(
     requires head { decoder.old.summary.head ≡ None }
     requires clean { decoder.old.summary.error ≡ None }
     requires none_waits { decoder.old.waiting ≡ None }
-    requires missing { decoder.old.summary.taken + missing ≡ 24 }
+    requires missing { decoder.old.summary.taken + missing ≡ FILE_HEAD }
     requires told { (bytes : List ℕ) × HasSummary bytes [] decoder.old.summary }
     ensures fed { OnOk result (HeadFed decoder.old held.old decoder.new held.new) }
     ensures bad { IfErr result (λ e. HeadBad decoder.old held.old e) }
@@ -121,16 +121,18 @@ pub fn seek<S: Shelf>(
     read: &mut u64,
     shelf: &mut S,
 ) -> Result<bool, FileError>
-    requires order { InOrder decoder.old held.old read.old }
+    requires order { InOrder (reading_with decoder.old held.old read.old) }
     requires head { IsSome decoder.old.summary.head }
     ensures sought { IfOk result (λ found.
-        Sought decoder.old held.old read.old decoder.new held.new read.new
+        Sought (reading_with decoder.old held.old read.old)
+        (reading_with decoder.new held.new read.new)
         (S.told shelf.old) (S.told shelf.new) found) }
     ensures refused { IfErr result (λ e.
         GivesError (reading_with decoder.old held.old read.old)
         (S.told shelf.old) (S.told shelf.new) e) }
     ensures head { decoder.new.summary.head ≡ decoder.old.summary.head }
-    ensures read_fault { IsErrOf result ReadFault → Rose (S.faults shelf.old) (S.faults shelf.new) }
+    ensures read_fault { IsErrOf result ReadFault
+        → Rose (S.faults shelf.old) (S.faults shelf.new) }
     ensures faults_stay { S.faults shelf.old ≤ S.faults shelf.new }
     ensures missed_stay { S.missed shelf.old ≤ S.missed shelf.new }
 {
@@ -151,16 +153,18 @@ fn seek_step<S: Shelf>(
     read: &mut u64,
     shelf: &mut S,
 ) -> Result<Step, FileError>
-    requires order { InOrder decoder.old held.old read.old }
+    requires order { InOrder (reading_with decoder.old held.old read.old) }
     requires head { IsSome decoder.old.summary.head }
     ensures steps { IfOk result (λ s.
-        Steps decoder.old held.old read.old decoder.new held.new read.new
+        Steps (reading_with decoder.old held.old read.old)
+        (reading_with decoder.new held.new read.new)
         (S.told shelf.old) (S.told shelf.new) s) }
     ensures refused { IfErr result (λ e.
         GivesError (reading_with decoder.old held.old read.old)
         (S.told shelf.old) (S.told shelf.new) e) }
     ensures head { decoder.new.summary.head ≡ decoder.old.summary.head }
-    ensures read_fault { IsErrOf result ReadFault → Rose (S.faults shelf.old) (S.faults shelf.new) }
+    ensures read_fault { IsErrOf result ReadFault
+        → Rose (S.faults shelf.old) (S.faults shelf.new) }
     ensures faults_stay { S.faults shelf.old ≤ S.faults shelf.new }
     ensures missed_stay { S.missed shelf.old ≤ S.missed shelf.new }
 {
@@ -204,16 +208,17 @@ fn drain(decoder: &mut Decoder, held: &mut Held) -> Result<(), CapError>
 // Reads more bytes where none are held: true. False: the file is at its end.
 fn refill<S: Shelf>(held: &mut Held, read: &mut u64, shelf: &mut S) -> Result<bool, FileError>
     requires none { held.old ≡ [] }
-    requires short { read.old ≤ most_read }
+    requires short { read.old ≤ MAX_READ }
     ensures taken { OnOk result (Takes (S.told shelf.old) (S.told shelf.new) held.new) }
     ensures more { IfOk result (λ more. more ≡ true → 0 < length held.new) }
     ensures end { IfOk result (λ more.
         more ≡ false → (held.new ≡ []) × IsAtEnd (S.told shelf.old)) }
     ensures read { OnOk result (read.new ≡ read.old + length held.new) }
-    ensures short { OnOk result (read.new ≤ most_read) }
+    ensures short { OnOk result (read.new ≤ MAX_READ) }
     ensures fails { IfErr result (λ e.
         RefillFails read.old (S.told shelf.old) (S.told shelf.new) e) }
-    ensures read_fault { IsErrOf result ReadFault → Rose (S.faults shelf.old) (S.faults shelf.new) }
+    ensures read_fault { IsErrOf result ReadFault
+        → Rose (S.faults shelf.old) (S.faults shelf.new) }
     ensures faults_stay { S.faults shelf.old ≤ S.faults shelf.new }
     ensures missed_stay { S.missed shelf.old ≤ S.missed shelf.new }
 {

@@ -10,8 +10,7 @@ use Rattle.am_pcap.proofs.capture.Capture.next.Goals as goal
 pub returns-in-Some : goal.returns-in-Some
 returns-in-Some g c =
     let passed = subst (λ x. Passed c.self.inside.decoder c.pass.new.self c.self.inside.head.form.big x c.in-Some.n) c.bytes.ensures c.in-Some.ensures.passed in
-    let all = gave-passed c.args.self.now c.self.inside.decoder c.self.inside.held c.self.inside.head c.self.inside.read c.self.inside.over c.pass.new.self
-    c.lend.follows.lender-at-none c.in-Some.n (g.S.Shelf.told c.args.shelf.now) c.lend.result
+    let all = gave-passed c.args.self.now c.pass.new.self c.lend.follows.lender-at-none c.self.inside.head c.in-Some.n (g.S.Shelf.told c.args.shelf.now) c.lend.result
     c.self.view_is c.requires c.self.invariant passed c.lend.follows.holds-at-none c.lend.ensures.packet
     (c.lend.ensures.number ∙ c.count-number.ensures) in (
       (refl, (λ _. tt), all.given),
@@ -31,9 +30,9 @@ returns-in-Some g c =
 
 pub returns-in-Ok-true : goal.returns-in-Ok-true
 returns-in-Ok-true g c =
-    let found = subst (λ x. Found x c.self.inside.held c.self.inside.read c.seek.new.decoder c.seek.new.held c.seek.new.read
+    let found = subst (λ x. Found (reading_with x c.self.inside.held c.self.inside.read) (reading_with c.seek.new.decoder c.seek.new.held c.seek.new.read)
     (g.S.Shelf.told c.args.shelf.now) (g.S.Shelf.told c.seek.new.shelf)) c.in-None.ensures.unchanged (rw c.in-Ok-true.field-0-test at c.in-Ok-true.ensures.sought) in
-    let all = gave c.args.self.now c.self.inside.decoder c.self.inside.held c.self.inside.read c.self.inside.over c.seek.new.decoder c.seek.new.held c.seek.new.read
+    let all = gave c.args.self.now (reading_with c.seek.new.decoder c.seek.new.held c.seek.new.read)
     (g.S.Shelf.told c.args.shelf.now) (g.S.Shelf.told c.seek.new.shelf) c.take.follows.lender-at-none c.take.result
     c.self.view_is c.requires found c.take.follows.holds-at-none c.take.ensures.record in (
       (refl, (λ _. tt), all.given),
@@ -55,8 +54,7 @@ pub returns-in-Ok-false : goal.returns-in-Ok-false
 returns-in-Ok-false g c =
     let end = subst (λ x. GivesEnd (reading_with x c.self.inside.held c.self.inside.read) (g.S.Shelf.told c.args.shelf.now) (g.S.Shelf.told c.seek.new.shelf))
     c.in-None.ensures.unchanged (rw c.in-Ok-false.field-0-test at c.in-Ok-false.ensures.sought) in
-    let ends = ends-so c.self.inside.decoder c.self.inside.held c.self.inside.read c.self.inside.over c.args.self.now
-    (g.S.Shelf.told c.args.shelf.now) (g.S.Shelf.told c.seek.new.shelf) c.self.view_is c.requires end in (
+    let ends = ends-so c.args.self.now (g.S.Shelf.told c.args.shelf.now) (g.S.Shelf.told c.seek.new.shelf) c.self.view_is c.requires end in (
       (refl, (λ _. tt), tt),
       record {
         leaves = tt;
@@ -76,8 +74,7 @@ pub returns-in-Err : goal.returns-in-Err
 returns-in-Err g c =
     let error = subst (λ x. GivesError (reading_with x c.self.inside.held c.self.inside.read) (g.S.Shelf.told c.args.shelf.now) (g.S.Shelf.told c.seek.new.shelf) c.in-Err.error)
     c.in-None.ensures.unchanged c.in-Err.ensures.refused in
-    let stops = stops-at c.self.inside.decoder c.self.inside.held c.self.inside.read c.self.inside.over c.args.self.now
-    (g.S.Shelf.told c.args.shelf.now) (g.S.Shelf.told c.seek.new.shelf) c.in-Err.error c.self.view_is c.requires error in (
+    let stops = stops-at c.args.self.now (g.S.Shelf.told c.args.shelf.now) (g.S.Shelf.told c.seek.new.shelf) c.in-Err.error c.self.view_is c.requires error in (
       (refl, (λ _. tt), tt),
       record {
         leaves = tt;
