@@ -9,6 +9,7 @@ use Rattle.std.proofs.lemmas.List.Concat.{flat_map-append}
 use Rattle.std.proofs.lemmas.List.FromFn.{length-range_with_len, get_or-range_with_len, length-map-range_with_len, get_or-map-range_with_len}
 use Rattle.am_cells.specs.declared.cell.Cell.{Cell}
 use Rattle.am_cells.specs.Counts.{no_packets}
+use Rattle.am_cells.specs.declared.cells.TheConstants.{MAX_CELLS}
 use Rattle.am_control.specs.declared.row.Scope.{Scope}
 use Rattle.am_control.specs.declared.row.LossRow.{LossRow}
 use Rattle.am_control.specs.declared.passage.Passage.{Passage}
@@ -115,10 +116,10 @@ module _ (m : Measured) (scope : Scope) where
   -- and so below the most cells of a table
   pub place-few : (c : ControlValue) (passages : List Passage) (flow block flows first : ℕ) → measured_of c ≡ m → IsControl c
       → flows ≡ m.plan.flows → first ≡ m.plan.first → passages ≡ scope_passages m scope → HasRow m.plan flow block
-      → (block - first) * flows + flow < 32768
+      → (block - first) * flows + flow < MAX_CELLS
   place-few c passages flow block flows first is control ef ei are there =
-      let few : m.plan.flows * (m.plan.end - m.plan.first) ≤ 32768
-      = subst (λ m. m.plan.flows * (m.plan.end - m.plan.first) ≤ 32768) is control.few_cells in
+      let few : m.plan.flows * (m.plan.end - m.plan.first) ≤ MAX_CELLS
+      = subst (λ m. m.plan.flows * (m.plan.end - m.plan.first) ≤ MAX_CELLS) is control.few_cells in
       let long = ap length are ∙ blocks-long m.plan.end in
       omega (
         arith,

@@ -1,12 +1,11 @@
 -- The text of a table that is handed on line by line.
-use Rattle.std.proofs.Common.{◌≡◌, ◌∙◌, ℕ, ◌+◌, List, [], ◌∷◌, ◌++◌, length, take, drop, Option, Some, None, refl, sym, ap, arith, append_assoc}
+use Rattle.std.proofs.Common.{◌≡◌, ◌∙◌, ℕ, ◌+◌, List, [], ◌∷◌, ◌++◌, length, take, drop, Option, Some, sym, ap, arith, append_assoc}
 use Rattle.std.specs.Prelude.{flat_map, slice_get}
 use Rattle.std.specs.Io.KnownBytes.{append_known}
-use Rattle.std.proofs.Math.Seq.{take-append_seam}
 use Rattle.std.proofs.lemmas.List.{length-append, take-append-le, take-append-drop, take_more, append-nil}
 use Rattle.std.proofs.lemmas.List.Concat.{flat_map-append}
 use Rattle.std.proofs.lemmas.Option.{slice_get_within, get_or_from_slice_get}
-use Rattle.am_base.specs.Sinks.{AppendsFront, IsWrittenOf}
+use Rattle.am_base.specs.Sinks.{AppendsFront}
 
 -- the text so far, and the piece of one item more
 pub piece-more : {X A : Type 0} (f : X → List A) (head : List A) (xs : List X) (k : ℕ) (x : X) → slice_get xs k ≡ Some x
@@ -34,17 +33,3 @@ front-of-front old new text part rest e f = (
   omega (arith, f.1, ap length e, length-append part rest),
   f.2 ∙ ap (λ x. append_known old x) (sym (ap (λ x. take f.0 x) e ∙ take-append-le f.0 part rest f.1)),
 )
-
--- where a text was handed to a buffer, a front of it was appended
-pub front-written : (start written : Option (List ℕ)) (held text : List ℕ) → IsWrittenOf start written held text
-    → AppendsFront start written text
-front-written start written held text w = (
-  length w.moved,
-  omega (arith, ap length w.handed, length-append w.moved held),
-  w.appended ∙ ap (λ x. append_known start x) (sym (ap (λ x. take (length w.moved) x) w.handed ∙ take-append_seam w.moved held)),
-)
-
--- nothing was appended
-pub front-none : (old : Option (List ℕ)) (text : List ℕ) → AppendsFront old old text
-front-none None text = (0, omega arith, refl)
-front-none (Some xs) text = (0, omega arith, ap Some (sym (append-nil xs)))

@@ -17,7 +17,7 @@ use Rattle.am_control.specs.declared.row.Scope.TheVariants.{Cluster, Network}
 use Rattle.am_control.specs.declared.row.LossRow.{LossRow}
 use Rattle.am_control.specs.Rows.{Measured, loss_row, flow_rows, scope_rows, loss_rows, scopes}
 use Rattle.am_control.specs.Texts.{loss_line, line_start, line_rest, delay_text}
-use Rattle.am_control.proofs.TextLemmas.{piece-more, pieces-front, front-of-front, front-written}
+use Rattle.am_control.proofs.TextLemmas.{piece-more, pieces-front, front-of-front}
 use Rattle.am_control.proofs.RowLemmas.{scopes-length, scope-network}
 use Rattle.am_control.proofs.SideLemmas.{range-more}
 
@@ -41,19 +41,6 @@ breaks-early :
 breaks-early o0 o1 h0 a b f start text w =
     front-of-front start o1 (text ++ (a ++ b)) (text ++ a) b (sym (append_assoc text a b)) (f start text w)
 
--- so is what was handed in
-breaks-held :
-    (o0 o1 : Option (List ℕ)) (h0 h1 a b : List ℕ) → HandsIn o0 h0 a o1 h1 → BreaksOff o0 h0 (a ++ b) o1
-breaks-held o0 o1 h0 h1 a b f start text w =
-    front-of-front start o1 (text ++ (a ++ b)) (text ++ a) b (sym (append_assoc text a b))
-    (front-written start o1 h1 (text ++ a) (f start text w))
-
--- no piece was handed in yet
-pub pieces-begin : {X : Type 0} (f : X → List ℕ) (xs : List X) (old : Option (List ℕ)) (held : List ℕ)
-    → HandsIn old held (flat_map f (take 0 xs)) old held
-pieces-begin f xs old held start text w =
-    record { moved = w.moved; appended = w.appended; handed = append-nil text ∙ w.handed }
-
 -- one piece more was
 pub pieces-next : {X : Type 0} (f : X → List ℕ) (xs : List X) (k : ℕ) (x : X) (o0 o1 o2 : Option (List ℕ)) (h0 h1 h2 text : List ℕ)
     → HandsIn o0 h0 (flat_map f (take k xs)) o1 h1 → slice_get xs k ≡ Some x → text ≡ f x → HandsIn o1 h1 text o2 h2
@@ -71,13 +58,6 @@ pieces-broken f xs k x o0 o1 o2 h0 h1 text before here is more =
     subst (λ t. BreaksOff o0 h0 t o2) (sym (pieces-front f [] xs (k + 1)))
     (breaks-early o0 o2 h0 (flat_map f (take (k + 1) xs)) (flat_map f (drop (k + 1) xs))
     (subst (λ t. BreaksOff o0 h0 t o2) next (breaks-after o0 o1 o2 h0 h1 (flat_map f (take k xs)) text before more)))
-
--- no piece more was handed in
-pub pieces-stopped : {X : Type 0} (f : X → List ℕ) (xs : List X) (k : ℕ) (o0 o1 : Option (List ℕ)) (h0 h1 : List ℕ)
-    → HandsIn o0 h0 (flat_map f (take k xs)) o1 h1 → BreaksOff o0 h0 (flat_map f xs) o1
-pieces-stopped f xs k o0 o1 h0 h1 before =
-    subst (λ t. BreaksOff o0 h0 t o1) (sym (pieces-front f [] xs k))
-    (breaks-held o0 o1 h0 h1 (flat_map f (take k xs)) (flat_map f (drop k xs)) before)
 
 -- all were
 pub pieces-done : {X : Type 0} (f : X → List ℕ) (xs : List X) (k : ℕ) (o0 o1 : Option (List ℕ)) (h0 h1 : List ℕ)

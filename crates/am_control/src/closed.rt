@@ -119,9 +119,11 @@ impl<'a> Closed<'a> {
         requires scope { IsScope self.now.plan scope }
         requires from { self.now.plan.first ≤ block }
         requires until { block < self.now.plan.end }
-        requires room { length passages.old.items + self.now.plan.flows ≤ vec_capacity passages.old }
+        requires room { length passages.old.items + self.now.plan.flows
+            ≤ vec_capacity passages.old }
         requires fit { All FitsBoth passages.old.items }
-        ensures passages { passages.new.items ≡ passages.old.items ++ block_passages self.now scope block }
+        ensures passages { passages.new.items ≡ passages.old.items
+            ++ block_passages self.now scope block }
         ensures fit { All FitsBoth passages.new.items }
         ensures room { vec_capacity passages.new ≡ vec_capacity passages.old }
     {

@@ -15,9 +15,6 @@ mod laws;
 mod passage;
 mod row;
 mod sides;
-mod tail;
-#[cfg(test)]
-mod tests;
 mod write;
 
 pub use closed::Closed;

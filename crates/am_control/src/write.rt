@@ -14,9 +14,9 @@ ghost use Rattle.am_control.specs.Texts.{loss_line, loss_text, line_start, line_
 use crate::closed::Closed;
 use crate::passage::Passage;
 use crate::row::{LossRow, Scope};
-use crate::tail::{MAX_TAIL, Tail};
 use am_base::{Buffer, Fault, OutError, Sink};
 use am_domain::{Domain, Flow};
+use am_tail::{MAX_TAIL, Tail};
 use std::alloc::Global;
 
 /// The first line of the table: the names of its columns.

@@ -10,8 +10,8 @@ use Rattle.std.proofs.lemmas.List.{ext_get_or, get_or-map, get_or-set_same, get_
 use Rattle.std.proofs.lemmas.List.FromFn.{get_or-map-range_with_len, length-map-range_with_len}
 use Rattle.std.proofs.lemmas.List.Sums.{position_or_len_is}
 use Rattle.am_cells.specs.CellTables.{CellTable}
-use Rattle.am_control.specs.Controls.{ControlValue, Accepts, HasPlanShape, RefusesReport, IsMeasuredBy}
-use Rattle.am_control.specs.Plans.{LossPlan, IsPlanOf}
+use Rattle.am_control.specs.Controls.{ControlValue, Accepts, RefusesReport, IsMeasuredBy}
+use Rattle.am_control.specs.Plans.{IsPlanOf}
 use Rattle.am_control.specs.Rows.{Measured}
 use Rattle.am_control.specs.Texts.{loss_text}
 use Rattle.am_control.specs.declared.error.ControlError.{ControlError}
@@ -183,14 +183,6 @@ report-within d bytes r lawful h =
     let rows : 1 ≤ length d.flows * (d.end - d.first) = grind (arith, lawful.some_flow, lawful.some_block) in
     first-within d h.taken r.node (omega (arith, h.whole, rows)) h.node
 
--- the cells of a report are those of the domain's flows and blocks
-pub report-shaped : (d : DomainValue) (p : LossPlan) (bytes : List ℕ) (r : Report) → IsPlanOf d p → IsReportOf d bytes r → HasPlanShape p r.cells
-report-shaped d p bytes r planned h = record {
-  flows_are = ap (λ (t : CellTable). t.flows) h.cells ∙ sym planned.flows;
-  first_is = ap (λ (t : CellTable). t.first) h.cells ∙ sym planned.first;
-  end_is = ap (λ (t : CellTable). t.end) h.cells ∙ sym planned.end;
-}
-
 -- a report of the node is there already
 pub told-twice :
     (d : DomainValue) (control : ControlValue) (taken : List Report) (r : Report) (e : ControlError)
@@ -243,12 +235,6 @@ first-without d control taken node has first =
     (λ k h. let some : is_some (get_or each k None) ≡ true = is.before k None h in cc (some))
     (λ h. ap (λ c. is_none c) (is.here None)) in
     ap (λ k. cond (ltb k (length each)) (Some k) None) at ∙ sym (cond_below node (length each) (Some node) None is.within)
-
--- the node without a report is one of the domain's
-pub without-within : (d : DomainValue) (control : ControlValue) (taken : List Report) (node : ℕ)
-    → HasReports d control taken → IsFirstPlace IsSome (λ r. r ≡ None) control.reports node → node < length d.nodes
-without-within d control taken node has first =
-    omega (arith, first.within, ap length has.reports, length-map-range_with_len (cells_of taken) 0 (length d.nodes))
 
 -- ---- what is printed
 

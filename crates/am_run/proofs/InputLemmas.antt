@@ -22,17 +22,16 @@ use Rattle.am_meter.specs.declared.stream.MeterError.TheVariants as meter
 use Rattle.am_domain.specs.Domains.{DomainValue, IsDomainOf, IsDomainRefusal, TellsRefusal}
 use Rattle.am_domain.specs.declared.error.DomainError.{DomainError}
 use Rattle.am_domain.specs.declared.error.DomainError.TheVariants as domain
-use Rattle.am_report.specs.Reports.{IsReportOf, IsReportRefusal, TellsReportRefusal}
-use Rattle.am_report.specs.ReportTexts.{refused_flow}
+use Rattle.am_report.specs.Reports.{IsReportOf, IsReportRefusal}
 use Rattle.am_report.specs.declared.error.ReportError.{ReportError}
 use Rattle.am_report.specs.declared.error.ReportError.TheVariants as report
 use Rattle.am_report.specs.declared.read.Report.{Report}
-use Rattle.am_report.specs.declared.read.TheConstants.{MAX_REPORT}
 use Rattle.am_run.specs.Answers.{Reason, Answer}
-use Rattle.am_run.specs.Answers.Reason.{BadDomain, BadReport}
+use Rattle.am_run.specs.Answers.Reason.{BadDomain}
 use Rattle.am_run.specs.Chains.{Inputs, Judged, Follows, StopsHere}
-use Rattle.am_run.specs.Inputs.{JudgesCapture, JudgesDomain, JudgesReport, marks_reason, most_domain}
-use Rattle.am_run.specs.Shown.{IsAnswered, stream_answer, domain_answer, report_answer}
+use Rattle.am_domain.specs.declared.domain.TheConstants.{MAX_DOMAIN}
+use Rattle.am_run.specs.Inputs.{JudgesCapture, JudgesDomain, JudgesReport, marks_reason}
+use Rattle.am_run.specs.Shown.{IsAnswered, stream_answer, domain_answer}
 use Rattle.am_run.proofs.ChainLemmas.{rose-later}
 
 -- a file that was read is judged as its bytes are
@@ -60,7 +59,7 @@ stop-answer before after name judge wanted answer h is =
 -- bytes that aren't read as a domain are a stop at their file
 pub domain-stops :
     (before after : Inputs) (name bytes : List ℕ) (e : DomainError)
-    → HasFile before.told name bytes → length bytes ≤ most_domain → TellsRefusal bytes e → StopsHere before after name JudgesDomain (domain_answer name e)
+    → HasFile before.told name bytes → length bytes ≤ MAX_DOMAIN → TellsRefusal bytes e → StopsHere before after name JudgesDomain (domain_answer name e)
 domain-stops before after name bytes domain.Memory there short h = tt
 domain-stops before after name bytes e there short h =
     (refl, judged-of before.told name JudgesDomain bytes (Err (BadDomain e)) there (inr (e, refl, short, h)))
@@ -71,15 +70,6 @@ pub domain-excludes :
     → (bytes : List ℕ) (d : DomainValue) (reason : Reason) → JudgesDomain bytes (Ok d) → JudgesDomain bytes (Err reason) → ⊥
 domain-excludes law bytes d reason taken refused =
     elim refused [ inl x ↦ omega (arith, taken.0, x.1) | inr x ↦ law bytes d x.0 taken.1 x.3 ]
-
--- bytes that aren't read as a report are a stop at their file
-pub report-stops :
-    (before after : Inputs) (name bytes : List ℕ) (d : DomainValue) (taken : List Report) (e : ReportError)
-    → HasFile before.told name bytes → length bytes ≤ MAX_REPORT → TellsReportRefusal d bytes e
-    → StopsHere before after name (JudgesReport d taken) (report_answer name d e)
-report-stops before after name bytes d taken report.Memory there short h = tt
-report-stops before after name bytes d taken e there short h =
-    (refl, judged-of before.told name (JudgesReport d taken) bytes (Err (BadReport e (refused_flow d e))) there (inr (inl (e, refl, short, h))))
 
 -- a report that is taken isn't refused
 pub report-excludes :

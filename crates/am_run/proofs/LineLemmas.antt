@@ -7,17 +7,6 @@ use Rattle.am_domain.specs.Domains.{DomainValue}
 use Rattle.am_run.specs.commands.Check.{IsFlowLine, AreFlowLines, node_line, node_lines}
 use Rattle.am_run.specs.Checking.{AddsFlow, AddsFlows}
 
-pub four_pieces : (p a m b : List ℕ) → p ++ (a ++ (m ++ b)) ≡ p ++ a ++ m ++ b
-four_pieces p a m b = simp append_assoc
-
-pub five_pieces : (p a m b e : List ℕ) → p ++ (a ++ (m ++ (b ++ e))) ≡ p ++ a ++ m ++ b ++ e
-five_pieces p a m b e = simp append_assoc
-
--- three pieces that were added one by one
-pub three_added : (l0 l1 l2 l3 a b d : List ℕ) → l1 ≡ l0 ++ a → l2 ≡ l1 ++ b → l3 ≡ l2 ++ d → l3 ≡ l0 ++ (a ++ b ++ d)
-three_added l0 l1 l2 l3 a b d e1 e2 e3 =
-    e3 ∙ ap (λ x. x ++ d) (e2 ∙ ap (λ x. x ++ b) e1) ∙ append_assoc (l0 ++ a) b d ∙ append_assoc l0 a (b ++ d) ∙ ap (λ x. l0 ++ x) (sym (append_assoc a b d))
-
 -- the pieces of a flow's line
 pub flow_pieces :
     (l0 l1 l2 l3 l4 l5 l6 l7 word name space number source destination end : List ℕ)

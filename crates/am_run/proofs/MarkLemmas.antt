@@ -1,7 +1,7 @@
 -- The newest block of each flow, as records come; and what a record with its mark is.
 use Rattle.std.proofs.Common.{◌≡◌, ℕ, ◌+◌, ◌-◌, ◌*◌, ◌/◌, ◌%◌, ◌^◌, ◌<◌, ◌≤◌, Bool, List, [], ◌∷◌, ◌++◌, length, take, drop, refl, ap, sym, ◌∙◌, subst, arith, inl, inr}
 use Rattle.std.specs.Prelude.{IsTrue, nat_le, ◌↔◌, ◌⊎◌, Contains, replicate, slice_index, slice_index_or, slice_set, max}
-use Rattle.std.proofs.lemmas.List.{length-append, length-take, length-drop, take-append-drop, length-set, length-replicate, get_or-replicate, get_or-set_same, get_or-set_other}
+use Rattle.std.proofs.lemmas.List.{length-append, length-take, length-drop, take-append-drop, length-set, get_or-set_same, get_or-set_other}
 use Rattle.std.proofs.lemmas.List.Elements.{Contains-append_left, Contains-append_right, Contains-append_cases}
 use Rattle.am_opts.specs.Marking.{Marking, IsCanonical}
 use Rattle.am_ip6.specs.declared.marks.Place.{Place}
@@ -44,19 +44,6 @@ marked-once t reading m n a b =
     let below : m ≤ n = begins-by m n t.block (omega (arith, a.from, b.until)) in
     let above : n ≤ m = begins-by n m t.block (omega (arith, b.from, a.until)) in
     omega (arith, below, above)
-
--- before all records
-pub newest-none : (d : DomainValue) (h : Head) (n : ℕ) (newest : List ℕ) → newest ≡ replicate n 0 → n ≡ length d.flows → AreNewest d h [] newest
-newest-none d h n newest e f = record {
-  each_flow = ap length e ∙ length-replicate n 0 ∙ f;
-  each_newest = λ number within.
-      let zero-there : slice_index newest number ≡ 0 =
-      ap (λ x. slice_index x number) e ∙ get_or-replicate n number 0 0 (omega (arith, f, within)) in
-      record {
-        above = λ q block c i. omega (arith, c.1);
-        reached = λ some. absurd (omega (arith, some, zero-there));
-      };
-}
 
 -- a record of another flow, or of none, changes nothing of a flow
 kept : (d : DomainValue) (h : Head) (ps : List Packet) (p : Packet) (number newest : ℕ) → ((at : ℕ) → IsOfFlow d h.link p at number → ⊥)
@@ -230,11 +217,6 @@ changed-bytes big p at packet captured original piece e f =
 pub captured-more : (bytes packet : List ℕ) (at : ℕ) → at ≤ length bytes → length packet ≡ length (drop at bytes) + 8
     → length bytes + 8 ≡ length (take at bytes ++ packet)
 captured-more bytes packet at within e =
-    omega (arith, within, e, length-drop at bytes, length-take at bytes, length-append (take at bytes) packet)
-
-pub captured-fewer : (bytes packet : List ℕ) (at : ℕ) → at ≤ length bytes → length packet + 8 ≡ length (drop at bytes)
-    → length bytes - 8 ≡ length (take at bytes ++ packet)
-captured-fewer bytes packet at within e =
     omega (arith, within, e, length-drop at bytes, length-take at bytes, length-append (take at bytes) packet)
 
 -- a record of a flow, with its mark

@@ -7,7 +7,8 @@ use Rattle.std.specs.Io.KnownBytes.{append_known}
 use Rattle.am_base.specs.Counts.{Rose}
 use Rattle.am_base.specs.Shelves.{Told}
 use Rattle.am_base.specs.Sinks.{AppendsFront, IsWrittenOf, WritesAll, WritesFront}
-use Rattle.am_pcap.specs.Packets.{Packet, HoldsPackets, word, behind_first, most_captured}
+use Rattle.am_pcap.specs.Packets.{Packet, HoldsPackets, word, behind_first}
+use Rattle.am_pcap.specs.declared.decoder.TheConstants.{MAX_CAPTURED}
 use Rattle.am_pcap.specs.Captures.{HasRecords, IsSplit}
 use Rattle.am_pcap.specs.declared.refusal.CapError.{CapError}
 use Rattle.am_pcap.specs.Answers.{GivesRecord, EndsReading, StopsReading}
@@ -377,7 +378,7 @@ reads-of before now name c k ps r e = let same : r.0 ≡ k = cc (r.1, e) in subs
 -- the last packet of whole records has no more bytes than a record may have
 last-short :
     (big : Bool) (bytes : List ℕ) (ps : List Packet) (p : Packet) (rest : List ℕ) → HoldsPackets big bytes (ps ++ p ∷ []) rest
-    → length p.bytes ≤ most_captured
+    → length p.bytes ≤ MAX_CAPTURED
 last-short big bytes [] p rest h =
     let same : length p.bytes ≡ min (word big bytes 8) (length (drop 16 bytes)) =
     ap (λ x. length x.bytes) h.1 ∙ length-take (word big bytes 8) (drop 16 bytes) in
@@ -386,7 +387,7 @@ last-short big bytes (q ∷ qs) p rest h = last-short big (behind_first big byte
 
 split-short :
     (bytes : List ℕ) (ps : List Packet) (p : Packet) (unfinished : List ℕ) (o : Option Head) (error : Option CapError) (h : Head)
-    → o ≡ Some h → IsSplit o error bytes (ps ++ p ∷ []) unfinished → length p.bytes ≤ most_captured
+    → o ≡ Some h → IsSplit o error bytes (ps ++ p ∷ []) unfinished → length p.bytes ≤ MAX_CAPTURED
 split-short bytes ps p unfinished o error h e s =
     let records : HasRecords bytes (ps ++ p ∷ []) unfinished h error = subst (λ x. IsSplit x error bytes (ps ++ p ∷ []) unfinished) e s in
     last-short h.form.big (drop 24 bytes) ps p unfinished records.records
@@ -394,7 +395,7 @@ split-short bytes ps p unfinished o error h e s =
 -- nor has the last record that was read
 pub read-short :
     (before now : Option Told) (name : List ℕ) (n : Reading) (h : Head) (ps : List Packet) (p : Packet)
-    → ReadsOn before now name n h (ps ++ p ∷ []) → length p.bytes ≤ most_captured
+    → ReadsOn before now name n h (ps ++ p ∷ []) → length p.bytes ≤ MAX_CAPTURED
 read-short before now name n h ps p on =
     split-short on.given.taken ps p n.decoded.summary.unfinished n.decoded.summary.head n.decoded.summary.error h on.head on.given.summary.split
 

@@ -17,16 +17,12 @@ use Rattle.am_run.specs.Answers.{Reason}
 use Rattle.am_run.specs.Answers.Reason.{TooLong, BadCapture, HeadersCut, BadDomain, BadReport, ReportTwice}
 use Rattle.am_run.specs.Gathering.{cells_of}
 
--- the most bytes of a domain file
-abbrev pub most_domain : ℕ
-most_domain = MAX_DOMAIN
-
 -- a domain file: the domain that its bytes say, or their first refusal
 abbrev pub JudgesDomain : List ℕ → Result DomainValue Reason → Type 0
-JudgesDomain bytes (Ok d) = (length bytes ≤ most_domain) × IsDomainOf bytes d
+JudgesDomain bytes (Ok d) = (length bytes ≤ MAX_DOMAIN) × IsDomainOf bytes d
 JudgesDomain bytes (Err reason) =
-    ((reason ≡ TooLong) × (most_domain < length bytes))
-    ⊎ ((error : DomainError) × (reason ≡ BadDomain error) × (length bytes ≤ most_domain) × IsDomainRefusal bytes error)
+    ((reason ≡ TooLong) × (MAX_DOMAIN < length bytes))
+    ⊎ ((error : DomainError) × (reason ≡ BadDomain error) × (length bytes ≤ MAX_DOMAIN) × IsDomainRefusal bytes error)
 
 -- why a capture is refused that is taken for its marked records
 abbrev pub marks_reason : MarksRefusal → Reason

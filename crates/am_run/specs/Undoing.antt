@@ -2,7 +2,7 @@
 use Rattle.std.specs.Prelude.{◌≡◌, ◌≤◌, ℕ, List, [], length, Some}
 use Rattle.am_base.specs.Shelves.{Told}
 use Rattle.am_base.specs.Files.{HasFile}
-use Rattle.am_pcap.specs.Readings.{most_read}
+use Rattle.am_pcap.specs.declared.seeking.TheConstants.{MAX_READ}
 use Rattle.am_domain.specs.Domains.{DomainValue}
 use Rattle.am_insert.specs.Changes.{IsBytes}
 use Rattle.am_run.specs.Answers.{Ending, Answer}
@@ -24,7 +24,7 @@ abbrev pub StripUndoesMark : Type 0
 StripUndoesMark =
     (d : DomainValue) (t u : Told) (name other file marked : List ℕ) → IsBytes file
     → HasFile (Some t) name file → StreamEnds (Some t) name (marked_records d) Done marked
-    → length marked ≤ most_read → HasFile (Some u) other marked → StripsTo d u other file
+    → length marked ≤ MAX_READ → HasFile (Some u) other marked → StripsTo d u other file
 
 -- a command was performed over these files, with this answer, and this is what stands on its output, where nothing stood before
 pub record LeavesText (t : Told) (chain : Chain) (answer : Answer) (text : List ℕ) : Type 0 where
@@ -43,6 +43,6 @@ abbrev pub RunsUndo : Type 0
 RunsUndo =
     (a b : DomainFile) (t u : Told) (domain file marked text : List ℕ) (ending : Ending) → IsBytes file
     → HasFile (Some t) a.domain domain → HasFile (Some t) a.file file → LeavesText t (mark_chain a) (Ended Done) marked
-    → length marked ≤ most_read
+    → length marked ≤ MAX_READ
     → HasFile (Some u) b.domain domain → HasFile (Some u) b.file marked → LeavesText u (strip_chain b) (Ended ending) text
     → (ending ≡ Done) × (text ≡ file)

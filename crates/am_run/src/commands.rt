@@ -58,7 +58,8 @@ pub enum Command<'a> {
 
 /// The command that the words are; none where they are no command.
 pub fn command_of(words: &[String]) -> Option<Command<'_>>
-    ensures only { IfSome result (λ c. SaysCommand (map string_bytes words.now) (command_shown c)) }
+    ensures only { IfSome result
+        (λ c. SaysCommand (map string_bytes words.now) (command_shown c)) }
     ensures none { IfNone result (IsNoCommand (map string_bytes words.now)) }
 {
     match words {

@@ -14,5 +14,4 @@ mod printing;
 mod rewriting;
 pub mod run;
 mod table;
-mod tail;
 mod words;

@@ -2,7 +2,7 @@
 ghost use Rattle.std.specs.Prelude.{◌≡◌, ◌≤◌, List, [], length, IfOk, OnOk, OnErr, IfErr};
 ghost use Rattle.am_base.specs.Counts.{Rose};
 ghost use Rattle.am_base.specs.Sinks.{WritesFront};
-ghost use Rattle.am_pcap.specs.Packets.{Packet, most_captured};
+ghost use Rattle.am_pcap.specs.Packets.{Packet};
 ghost use Rattle.am_pcap.specs.Shown.{packet_shown};
 ghost use Rattle.am_pcap.specs.declared.head.Head.{Head as HeadValue};
 ghost use Rattle.am_run.specs.Chains.{inputs, output, Stream, StreamsSo};
@@ -11,7 +11,7 @@ ghost use Rattle.am_run.specs.Shown.{answer_of, OnRefused};
 
 use crate::answer::{Stop, Unprinted};
 use am_base::{Fault, MAX_HELD, Shelf, Sink, put};
-use am_pcap::{Capture, Head, Record};
+use am_pcap::{Capture, Head, MAX_CAPTURED, Record};
 use std::alloc::{AllocError, Global};
 
 /// What a command prints of a capture, record by record. It adds to bytes that are held in memory, and writes nothing
@@ -46,7 +46,7 @@ pub trait Printing {
         held: &mut Vec<u8>,
     ) -> Result<(), Unprinted>
         requires known { (ps : List Packet) × knows self.now state.old head.now ps }
-        requires short { length packet.now.bytes.now ≤ most_captured }
+        requires short { length packet.now.bytes.now ≤ MAX_CAPTURED }
         ensures more { OnOk result (Grows held.old.items held.new.items (λ piece.
             AddsRecord (stream self.now) (knows self.now state.old) (knows self.now state.new)
             head.now packet.now.number (packet_shown packet.now) piece)) }

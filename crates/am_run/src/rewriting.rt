@@ -1,6 +1,5 @@
 //! Captures whose packets are changed: which flow a record is of, and how it is written.
 ghost use Rattle.std.specs.Prelude.{◌≡◌, ◌≤◌, ◌+◌, ◌++◌, ℕ, length, take, drop, vec_len, vec_capacity, IfSome, IfNone, OnOk, OnErr};
-ghost use Rattle.am_pcap.specs.Packets.{most_captured};
 ghost use Rattle.am_pcap.specs.Spelling.{record_bytes, head_spelled};
 ghost use Rattle.am_pcap.specs.Shown.{packet_shown};
 ghost use Rattle.am_insert.specs.Edits.{edited, IsEditOf};
@@ -10,7 +9,7 @@ use am_addr::Addr;
 use am_domain::Domain;
 use am_insert::Edit;
 use am_ip6::Fixed;
-use am_pcap::{Form, Frame, LinkKind, Record, packet_of, record_head};
+use am_pcap::{Form, Frame, LinkKind, MAX_CAPTURED, Record, packet_of, record_head};
 use std::alloc::AllocError;
 
 /// Where the packet of a record begins, and the number of its flow.
@@ -46,7 +45,7 @@ pub fn flow_of_record(domain: &Domain, link: LinkKind, record: &Record<'_>) -> O
 
 /// Adds the record as it is, or nothing where memory runs out.
 pub fn keep_record(held: &mut Vec<u8>, form: Form, record: &Record<'_>) -> Result<(), AllocError>
-    requires { length record.now.bytes.now ≤ most_captured }
+    requires { length record.now.bytes.now ≤ MAX_CAPTURED }
     ensures added { OnOk result (held.new.items
         ≡ held.old.items ++ record_bytes form.big (packet_shown record.now)) }
     ensures kept { OnErr result (held.new.items ≡ held.old.items) }

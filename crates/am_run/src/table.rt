@@ -139,7 +139,8 @@ impl Table {
     /// The text of the table: a line with the columns' names, and then one for each block, ascending.
     pub fn text(&mut self, alloc: Global) -> Result<String, AllocError>
         requires { IsCounted self.old }
-        ensures table { IfOk result (λ text. IsCountTable (tally self.old Entered) (tally self.old Left)
+        ensures table { IfOk result
+            (λ text. IsCountTable (tally self.old Entered) (tally self.old Left)
             (rows_of self.new)) }
         ensures text { IfOk result (λ text. string_bytes text ≡ table_text (rows_of self.new)) }
     {

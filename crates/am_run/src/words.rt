@@ -11,7 +11,8 @@ pub fn number(word: &str, least: u64, most: u64) -> Option<u64>
     ensures writes { IfSome result (λ n. WritesNumber word.now n) }
     ensures least { IfSome result (λ n. least ≤ n) }
     ensures most { IfSome result (λ n. n ≤ most) }
-    ensures none { IfNone result ((n : ℕ) → WritesNumber word.now n → least ≤ n → n ≤ most → ⊥) }
+    ensures none { IfNone result ((n : ℕ) → WritesNumber word.now n → least ≤ n → n ≤ most
+        → ⊥) }
 {
     let Some(number) = decimal(word.as_bytes()) else {
         return None;

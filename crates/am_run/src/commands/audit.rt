@@ -24,7 +24,8 @@ pub struct AuditWords<'a> {
 pub fn words_of(words: &[String]) -> Option<AuditWords<'_>>
     ensures only { IfSome result
         (λ w. SaysAuditWords (map string_bytes words.now) (audit_shown w)) }
-    ensures none { IfNone result ((a : Audit) → SaysAuditWords (map string_bytes words.now) a → ⊥) }
+    ensures none { IfNone result ((a : Audit) → SaysAuditWords (map string_bytes words.now) a
+        → ⊥) }
 {
     match words {
         [file] => file_word(file.as_str()),

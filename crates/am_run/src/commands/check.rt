@@ -25,7 +25,8 @@ pub struct CheckWords<'a> {
 pub fn words_of(words: &[String]) -> Option<CheckWords<'_>>
     ensures only { IfSome result
         (λ w. SaysCheckWords (map string_bytes words.now) (check_shown w)) }
-    ensures none { IfNone result ((c : Check) → SaysCheckWords (map string_bytes words.now) c → ⊥) }
+    ensures none { IfNone result ((c : Check) → SaysCheckWords (map string_bytes words.now) c
+        → ⊥) }
 {
     match words {
         [file] => file_word(file.as_str()),
@@ -84,7 +85,8 @@ fn summary(alloc: Global, domain: &Domain) -> Result<String, AllocError>
 
 // Adds the blocks that are reported, the guard band and half a block.
 fn push_head(text: &mut String, domain: &Domain) -> Result<(), AllocError>
-    ensures { OnOk result (string_bytes text.new ≡ string_bytes text.old ++ head_lines domain.now) }
+    ensures { OnOk result (string_bytes text.new ≡ string_bytes text.old
+        ++ head_lines domain.now) }
 {
     let first = domain.first();
     let last = domain.end() - 1;
@@ -122,7 +124,8 @@ fn push_flow(alloc: Global, text: &mut String, flow: &Flow) -> Result<(), AllocE
 
 // Adds a prefix.
 fn push_prefix(alloc: Global, text: &mut String, prefix: &Prefix) -> Result<(), AllocError>
-    ensures { OnOk result (AddsPrefix prefix.now (string_bytes text.old) (string_bytes text.new)) }
+    ensures { OnOk result
+        (AddsPrefix prefix.now (string_bytes text.old) (string_bytes text.new)) }
 {
     let base = prefix.base();
     let address = print(alloc, &base)?;

@@ -28,8 +28,10 @@ pub struct LinkWords<'a> {
 
 /// BLOCK DMIN FLOW UP DOWN.
 pub fn words_of(words: &[String]) -> Option<LinkWords<'_>>
-    ensures only { IfSome result (λ w. SaysLinkWords (map string_bytes words.now) (link_shown w)) }
-    ensures none { IfNone result ((l : Link) → SaysLinkWords (map string_bytes words.now) l → ⊥) }
+    ensures only { IfSome result
+        (λ w. SaysLinkWords (map string_bytes words.now) (link_shown w)) }
+    ensures none { IfNone result ((l : Link) → SaysLinkWords (map string_bytes words.now) l
+        → ⊥) }
 {
     match words {
         [block, shift, flow, up, down] => five_words(
@@ -71,7 +73,8 @@ fn numbers_of<'a>(
     up: &'a str,
     down: &'a str,
 ) -> Option<LinkWords<'a>>
-    ensures only { IfSome result (λ w. SaysNumbers block.now shift.now flow.now (link_shown w)) }
+    ensures only { IfSome result
+        (λ w. SaysNumbers block.now shift.now flow.now (link_shown w)) }
     ensures up { IfSome result (λ w. w.up.now ≡ up.now) }
     ensures down { IfSome result (λ w. w.down.now ≡ down.now) }
     ensures none { IfNone result ((l : Link) →

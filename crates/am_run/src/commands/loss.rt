@@ -29,7 +29,8 @@ pub struct LossWords<'a> {
 pub fn words_of(words: &[String]) -> Option<LossWords<'_>>
     ensures only { IfSome result
         (λ w. SaysLossWords (map string_bytes words.now) (loss_shown w)) }
-    ensures none { IfNone result ((l : Loss) → SaysLossWords (map string_bytes words.now) l → ⊥) }
+    ensures none { IfNone result ((l : Loss) → SaysLossWords (map string_bytes words.now) l
+        → ⊥) }
 {
     match words {
         [domain, reports @ ..] => names_of(domain.as_str(), reports),

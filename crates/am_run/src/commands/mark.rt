@@ -2,7 +2,6 @@
 ghost use Rattle.std.specs.Prelude.{◌≡◌, ◌≤◌, ◌<◌, ◌^◌, length, drop, OnOk, OnErr, IfOk, IfErr};
 ghost use Rattle.std.specs.Bool.{MatchBool};
 ghost use Rattle.am_clock.specs.Times.{IsMarkedIn};
-ghost use Rattle.am_pcap.specs.Packets.{most_captured};
 ghost use Rattle.am_pcap.specs.Shown.{packet_shown};
 ghost use Rattle.am_run.specs.Chains.{inputs, output, Performs};
 ghost use Rattle.am_insert.specs.Edits.{edited, IsEditOf};
@@ -22,7 +21,7 @@ use am_clock::{Timing, colour_of};
 use am_domain::Domain;
 use am_insert::{Edit, plan_insert};
 use am_opts::Mark;
-use am_pcap::{Head, Record};
+use am_pcap::{Head, MAX_CAPTURED, Record};
 use std::alloc::{AllocError, Global};
 
 /// The most captured bytes of a record that gets a mark, which takes eight: with them it has as many as a record may.
@@ -99,7 +98,7 @@ fn mark_record(
     found: Matched,
     held: &mut Vec<u8>,
 ) -> Result<(), Unprinted>
-    requires short { length packet.now.bytes.now ≤ most_captured }
+    requires short { length packet.now.bytes.now ≤ MAX_CAPTURED }
     requires flows { length state.old.newest.items ≡ length domain.now.flows }
     requires of_flow { IsOfFlow domain.now head.now.link (packet_shown packet.now)
         found.at found.flow }

@@ -24,7 +24,8 @@ pub struct MeterWords<'a> {
 pub fn words_of(words: &[String]) -> Option<MeterWords<'_>>
     ensures only { IfSome result
         (λ w. SaysMeterWords (map string_bytes words.now) (meter_shown w)) }
-    ensures none { IfNone result ((m : Meter) → SaysMeterWords (map string_bytes words.now) m → ⊥) }
+    ensures none { IfNone result ((m : Meter) → SaysMeterWords (map string_bytes words.now) m
+        → ⊥) }
 {
     match words {
         [domain, node] => two_words(domain.as_str(), node.as_str()),

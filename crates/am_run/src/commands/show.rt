@@ -14,12 +14,12 @@ ghost use Rattle.am_run.specs.Shown.{show_shown, answer_of};
 
 use crate::answer::{Stop, Unprinted};
 use crate::printing::{Printing, print_capture};
-use crate::tail::{MAX_TAIL, Tail};
 use am_base::{Shelf, Sink};
 use am_domain::is_file_name;
 use am_ip6::{Brief, Ending, Found, Place, Walk, find_mark, walk_ending};
 use am_opts::Mark;
 use am_pcap::{Form, Frame, Head, Record, packet_of};
+use am_tail::{MAX_TAIL, Tail};
 use std::alloc::{AllocError, Global};
 
 /// What `show` is asked.
@@ -31,8 +31,10 @@ pub struct ShowWords<'a> {
 
 /// FILE.
 pub fn words_of(words: &[String]) -> Option<ShowWords<'_>>
-    ensures only { IfSome result (λ w. SaysShowWords (map string_bytes words.now) (show_shown w)) }
-    ensures none { IfNone result ((s : Show) → SaysShowWords (map string_bytes words.now) s → ⊥) }
+    ensures only { IfSome result
+        (λ w. SaysShowWords (map string_bytes words.now) (show_shown w)) }
+    ensures none { IfNone result ((s : Show) → SaysShowWords (map string_bytes words.now) s
+        → ⊥) }
 {
     match words {
         [file] => file_word(file.as_str()),

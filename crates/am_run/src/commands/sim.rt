@@ -49,7 +49,8 @@ pub struct SimWords<'a> {
 
 /// DOMAIN NUMBER PACKETS.
 pub fn words_of(words: &[String]) -> Option<SimWords<'_>>
-    ensures only { IfSome result (λ w. SaysSimWords (map string_bytes words.now) (sim_shown w)) }
+    ensures only { IfSome result
+        (λ w. SaysSimWords (map string_bytes words.now) (sim_shown w)) }
     ensures none { IfNone result ((s : Sim) → SaysSimWords (map string_bytes words.now) s → ⊥) }
 {
     match words {

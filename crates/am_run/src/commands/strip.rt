@@ -1,6 +1,5 @@
 //! The command `strip`: the capture without the marks of the domain's flows (RFC 9343, section 4).
 ghost use Rattle.std.specs.Prelude.{◌≡◌, ◌≤◌, ◌+◌, ◌-◌, ◌++◌, ⊤, length, drop, OnOk, OnErr, IfSome, IfNone};
-ghost use Rattle.am_pcap.specs.Packets.{most_captured};
 ghost use Rattle.am_pcap.specs.Shown.{packet_shown};
 ghost use Rattle.am_pcap.specs.Spelling.{record_bytes};
 ghost use Rattle.am_insert.specs.Edits.{edited, IsEditOf};
@@ -17,7 +16,7 @@ use crate::words::DomainFileWords;
 use am_base::{Shelf, Sink};
 use am_domain::Domain;
 use am_insert::{Edit, plan_strip};
-use am_pcap::{Head, Record};
+use am_pcap::{Head, MAX_CAPTURED, Record};
 use std::alloc::{AllocError, Global};
 
 /// How many bytes go with a mark.
@@ -108,13 +107,14 @@ fn strip_record(
     packet: &Record<'_>,
     own: &OwnMark,
 ) -> Result<(), AllocError>
-    requires short { length packet.now.bytes.now ≤ most_captured }
+    requires short { length packet.now.bytes.now ≤ MAX_CAPTURED }
     requires within { own.now.at ≤ length packet.now.bytes.now }
     requires edit { IsEditOf own.now.edit (drop own.now.at packet.now.bytes.now) }
     requires shorter { length (edited own.now.edit (drop own.now.at packet.now.bytes.now)) + 8
         ≡ length (drop own.now.at packet.now.bytes.now) }
     requires room { 8 ≤ packet.now.original }
-    ensures added { OnOk result (held.new.items ≡ held.old.items ++ record_bytes head.now.form.big
+    ensures added { OnOk result (held.new.items ≡ held.old.items
+        ++ record_bytes head.now.form.big
         (with_packet (packet_shown packet.now) own.now.at
         (edited own.now.edit (drop own.now.at packet.now.bytes.now))
         (packet.now.original - 8))) }

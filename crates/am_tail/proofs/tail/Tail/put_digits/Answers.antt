@@ -2,7 +2,7 @@
 use Rattle.std.proofs.Common.{arith, ap, ◌≤◌, length, decimal}
 use Rattle.std.proofs.lemmas.Fmt.{length-decimal-le}
 use Rattle.std.proofs.lemmas.List.{length-drop}
-use Rattle.am_control.proofs.tail.Tail.put_digits.Goals as goal
+use Rattle.am_tail.proofs.tail.Tail.put_digits.Goals as goal
 
 pub write_digits-self-inside-requires : goal.write_digits-self-inside-requires
 write_digits-self-inside-requires c =

@@ -1,26 +1,24 @@
-//! A short text that is made from its end.
-//!
-//! Decimal digits are had from the last to the first. So a line is made that way too: each piece is put before those that
-//! stand, and the whole is handed on at once.
+//! Bytes that are put one before the other.
 ghost use Rattle.std.specs.Prelude.{◌≡◌, ◌+◌, ◌≤◌, ◌<◌, ◌++◌, ◌∷◌, [], length, decimal};
 ghost use Rattle.std.specs.Fmt.{signed_decimal};
 
 use itoa::{Buffer, write_digits};
 use std::marker::Model;
 
-/// How many bytes a tail holds at most: a line of the loss table has fewer than 300.
-pub(crate) const MAX_TAIL: usize = 320;
+/// How many bytes a tail holds at most. The longest lines that are made so are those of the loss table, which have fewer
+/// than 300.
+pub const MAX_TAIL: usize = 320;
 
 /// Bytes, the last of which were put first. To a contract it is the list of them.
 #[derive(Drop)]
-pub(crate) struct Tail {
+pub struct Tail {
     bytes: [u8; MAX_TAIL],
     from: usize,
 }
 
 impl Model for Tail {
     ghost use Rattle.std.specs.Prelude.{◌≤◌, ℕ, List, drop};
-    ghost use Rattle.am_control.specs.declared.tail.TheConstants.{MAX_TAIL};
+    ghost use Rattle.am_tail.specs.declared.tail.TheConstants.{MAX_TAIL};
 
     ghost Value = { List ℕ };
 
@@ -32,7 +30,7 @@ impl Model for Tail {
 impl Tail {
     /// No bytes.
     #[inline(always)]
-    pub(crate) fn new() -> Tail
+    pub fn new() -> Tail
         ensures { result ≡ [] }
     {
         Tail {
@@ -43,7 +41,7 @@ impl Tail {
 
     /// Lets all bytes go.
     #[inline(always)]
-    pub(crate) fn clear(&mut self)
+    pub fn clear(&mut self)
         ensures { self.new ≡ [] }
     {
         self.from = MAX_TAIL;
@@ -51,7 +49,7 @@ impl Tail {
 
     /// Puts a byte before those that stand.
     #[inline(always)]
-    pub(crate) fn put(&mut self, byte: u8)
+    pub fn put(&mut self, byte: u8)
         requires { length self.old < MAX_TAIL }
         ensures text { self.new ≡ byte ∷ self.old }
         ensures room { length self.new ≡ length self.old + 1 }
@@ -62,7 +60,7 @@ impl Tail {
 
     /// Puts these bytes before those that stand.
     #[inline(always)]
-    pub(crate) fn put_all(&mut self, bytes: &[u8])
+    pub fn put_all(&mut self, bytes: &[u8])
         requires { length self.old + length bytes.now ≤ MAX_TAIL }
         ensures text { self.new ≡ bytes.now ++ self.old }
         ensures room { length self.new ≡ length self.old + length bytes.now }
@@ -75,7 +73,7 @@ impl Tail {
     /// Puts the decimal digits of a number before the bytes that stand.
     #[inline(always)]
     #[tactic(auto, using(std::proofs::lemmas::Fmt::decimal_digit))]
-    pub(crate) fn put_number(&mut self, number: u64)
+    pub fn put_number(&mut self, number: u64)
         requires { length self.old + 20 ≤ MAX_TAIL }
         ensures text { self.new ≡ decimal number ++ self.old }
         ensures room { length self.new ≤ length self.old + 20 }
@@ -98,7 +96,7 @@ impl Tail {
 
     /// Puts a number that may be negative: its sign and its digits.
     #[inline(always)]
-    pub(crate) fn put_signed(&mut self, number: i128)
+    pub fn put_signed(&mut self, number: i128)
         requires { length self.old + 40 ≤ MAX_TAIL }
         ensures text { self.new ≡ signed_decimal number ++ self.old }
         ensures room { length self.new ≤ length self.old + 40 }
@@ -127,7 +125,7 @@ impl Tail {
 
     /// The bytes.
     #[inline(always)]
-    pub(crate) fn text(&self) -> &[u8]
+    pub fn text(&self) -> &[u8]
         ensures { result.now ≡ self.now }
     {
         &self.bytes[self.from..]
