@@ -17,7 +17,8 @@ const MOST_DIGITS: u8 = 4;
 /// The values of a list of at most eight groups, joined by `:`. Of the empty text there are none.
 pub fn list_of(text: &[u8]) -> Option<Groups>
     ensures only { IfSome result (λ g. IsList (listed g) text.now) }
-    ensures found { (values : List ℕ) → length values ≤ 8 → IsList values text.now → IsSomeAnd result (λ g. listed g ≡ values) }
+    ensures found { (values : List ℕ) → length values ≤ 8 → IsList values text.now
+        → IsSomeAnd result (λ g. listed g ≡ values) }
 {
     if text.is_empty() {
         return Some(Groups::new());
@@ -89,7 +90,8 @@ impl Reading {
 
     // The groups, where the last one ends here. None where it has no digit, and where it is the ninth.
     fn end(self) -> Option<Groups>
-        ensures ended { IfSome result (λ g. (0 < self.digits) × (listed g ≡ listed self.ended ++ self.value ∷ [])) }
+        ensures ended { IfSome result (λ g. (0 < self.digits)
+            × (listed g ≡ listed self.ended ++ self.value ∷ [])) }
         ensures none { IfNone result ((self.digits ≡ 0) ⊎ (length (listed self.ended) ≡ 8)) }
     {
         if self.digits == 0 || self.ended.count() == MOST {

@@ -1,8 +1,7 @@
 //! Prefixes: the first bits of addresses, and how many they are (RFC 4291, section 2.3).
 
 ghost use Rattle.std.specs.Prelude.{◌≡◌, ℕ, ◌+◌, ◌-◌, ◌*◌, ◌/◌, ◌^◌, ◌<◌, ◌≤◌, ◌↔◌, List, IsTrue, Some, IfSome, IfNone};
-ghost use Rattle.am_addr.specs.Text.{IsTextOf};
-ghost use Rattle.am_addr.specs.Bits.{Span, BeginAlike, cleared, IsLength, Decimal, IsPrefixText};
+ghost use Rattle.am_addr.specs.Bits.{Span, BeginAlike, cleared, IsLength, IsPrefixText};
 
 use crate::address::{Addr, parse};
 use crate::mask::{Mask, front_of};
@@ -120,7 +119,8 @@ fn length_of(text: &[u8]) -> Option<u8>
 fn with_digit(before: u8, byte: u8) -> Option<u8>
     requires { before ≤ 128 }
     ensures small { IfSome result (λ n. n ≤ 128) }
-    ensures goes { IfSome result (λ n. (d : ℕ) × (d < 10) × (byte ≡ 48 + d) × (n ≡ before * 10 + d)) }
+    ensures goes { IfSome result (λ n. (d : ℕ) × (d < 10) × (byte ≡ 48 + d)
+        × (n ≡ before * 10 + d)) }
     ensures none { IfNone result ((d : ℕ) → d < 10 → byte ≡ 48 + d → 128 < before * 10 + d) }
 {
     if !byte.is_ascii_digit() {
@@ -131,51 +131,4 @@ fn with_digit(before: u8, byte: u8) -> Option<u8>
         return None;
     }
     Some(number as u8)
-}
-
-#[cfg(test)]
-mod tests {
-    use super::*;
-    use std::test::Fail;
-
-    #[test]
-    fn prefixes_hold_addresses(rt: HostRuntime) -> Result<(), Fail> {
-        let inside = parse("2001:db8:1::1").ok_or("an address")?;
-        let outside = parse("2001:db8:2::1").ok_or("an address")?;
-        let prefix = Prefix::parse("2001:db8:1::/48").ok_or("a prefix")?;
-        assert!(rt; prefix.holds(&inside));
-        assert!(rt; !prefix.holds(&outside));
-        let all = Prefix::parse("::/0").ok_or("a prefix")?;
-        assert!(rt; all.holds(&inside) && all.holds(&outside));
-        let one = Prefix::parse("2001:db8:1::1/128").ok_or("a prefix")?;
-        assert!(rt; one.holds(&inside) && !one.holds(&outside));
-        // a length within a byte: 1 and 2 differ in bit 47 alone
-        let wide = Prefix::parse("2001:db8:3::/46").ok_or("a prefix")?;
-        assert!(rt; wide.holds(&inside) && wide.holds(&outside));
-        Ok(())
-    }
-
-    #[test]
-    fn bits_past_the_length_are_zero(rt: HostRuntime) -> Result<(), Fail> {
-        let prefix = Prefix::parse("2001:db8:1::1/48").ok_or("a prefix")?;
-        assert_eq!(rt; prefix.base(), parse("2001:db8:1::").ok_or("an address")?);
-        assert_eq!(rt; prefix.length(), 48);
-        let within = Prefix::parse("2001:db8:ffff::/35").ok_or("a prefix")?;
-        assert_eq!(rt;
-            within.base(),
-            parse("2001:db8:e000::").ok_or("an address")?
-        );
-        assert_eq!(rt; Prefix::parse("2001:db8:1::/48"), Some(prefix));
-        Ok(())
-    }
-
-    #[test]
-    fn other_texts_stand_for_no_prefix(rt: HostRuntime) {
-        for text in [
-            "::/129", "::/048", "::/", "/", "::", "", "/48", "::/+4", "::/1000", "::/4/8", "::/00",
-            "1:2/16",
-        ] {
-            assert!(rt; Prefix::parse(text).is_none(), "{text}");
-        }
-    }
 }

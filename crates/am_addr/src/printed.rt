@@ -3,7 +3,7 @@
 ghost use Rattle.std.specs.Prelude.{◌≡◌, ℕ, ◌+◌, ◌*◌, ◌/◌, ◌%◌, ◌<◌, ◌≤◌, ◌⊎◌, List, [], ◌∷◌, ◌++◌, length, replicate, take, drop, IfOk, OnOk};
 ghost use Rattle.std.specs.String.{string_bytes};
 ghost use Rattle.am_addr.specs.Text.{IsTextOf};
-ghost use Rattle.am_addr.specs.Print.{IsPrinted, IsRun, IsBestBelow, glyph, group_of, list_of, values_of, AreBytes};
+ghost use Rattle.am_addr.specs.Print.{IsPrinted, IsBestBelow, glyph, group_of, list_of, values_of, AreBytes};
 
 use crate::address::Addr;
 use std::alloc::{AllocError, Global};
@@ -94,7 +94,8 @@ fn zeros_in(values: &[u16]) -> usize
 
 // Appends values, joined by `:`.
 fn push_list(text: &mut String, values: &[u16]) -> Result<(), AllocError>
-    ensures { OnOk result (string_bytes text.new ≡ string_bytes text.old ++ list_of values.now) }
+    ensures { OnOk result (string_bytes text.new ≡ string_bytes text.old
+        ++ list_of values.now) }
 {
     for (place, value) in values.iter().enumerate() {
         if place > 0 {
@@ -133,41 +134,4 @@ fn push_digit(text: &mut String, digit: u16) -> Result<(), AllocError>
         b'a' + (digit as u8 - 10)
     };
     text.push(char::from(byte))
-}
-
-#[cfg(test)]
-mod tests {
-    use super::*;
-    use crate::address::parse;
-    use std::test::Fail;
-
-    // Whether the address of the first text is printed as the second.
-    fn is_printed(rt: &HostRuntime, text: &str, wanted: &str) -> Result<bool, Fail> {
-        let addr = parse(text).ok_or("an address")?;
-        let printed = print(rt.alloc(), &addr)?;
-        Ok(printed.as_str() == wanted)
-    }
-
-    #[test]
-    fn addresses_are_printed(rt: HostRuntime) -> Result<(), Fail> {
-        for (text, wanted) in [
-            // RFC 5952, sections 4.1 to 4.3
-            ("2001:0db8::0001", "2001:db8::1"),
-            ("2001:DB8:0:0:1:0:0:1", "2001:db8::1:0:0:1"),
-            ("2001:db8:0:1:1:1:1:1", "2001:db8:0:1:1:1:1:1"),
-            ("2001:0:0:1:0:0:0:1", "2001:0:0:1::1"),
-            // a run of one at an end, all zeros, runs at the ends, each digit
-            ("1:2:3:4:5:6:7::", "1:2:3:4:5:6:7:0"),
-            ("0:0:0:0:0:0:0:0", "::"),
-            ("0:0:0:0:0:0:0:1", "::1"),
-            ("1:0:0:0:0:0:0:0", "1::"),
-            (
-                "0123:4567:89AB:CDEF:00f:10:100:ffff",
-                "123:4567:89ab:cdef:f:10:100:ffff",
-            ),
-        ] {
-            assert!(rt; is_printed(&rt, text, wanted)?, "{text}");
-        }
-        Ok(())
-    }
 }

@@ -45,7 +45,8 @@ pub fn read_file<S: Shelf>(
         WhyNotRead (S.told shelf.old) (S.told shelf.new) name.now limit fault) }
     ensures missing { IsErrOf result Missing →
         Rose (S.missed shelf.old) (S.missed shelf.new) × IsAbsent (S.told shelf.old) name.now }
-    ensures read_fault { IsErrOf result ReadFault → Rose (S.faults shelf.old) (S.faults shelf.new) }
+    ensures read_fault { IsErrOf result ReadFault
+        → Rose (S.faults shelf.old) (S.faults shelf.new) }
     ensures too_long { IsErrOf result TooLong → IsLonger (S.told shelf.old) name.now limit }
     ensures files { KeepsFiles (S.told shelf.old) (S.told shelf.new) }
     ensures faults_stay { S.faults shelf.old ≤ S.faults shelf.new }
@@ -92,7 +93,8 @@ fn read_more<S: Shelf>(
     ensures end { IfOk result (λ n. n ≡ 0 → IsAtEnd (S.told shelf.old)) }
     ensures refused { IfErr result (λ fault.
         WhyNoMore (S.told shelf.old) (S.told shelf.new) (vec_len bytes.old) limit fault) }
-    ensures read_fault { IsErrOf result ReadFault → Rose (S.faults shelf.old) (S.faults shelf.new) }
+    ensures read_fault { IsErrOf result ReadFault
+        → Rose (S.faults shelf.old) (S.faults shelf.new) }
     ensures files { KeepsFiles (S.told shelf.old) (S.told shelf.new) }
     ensures faults_stay { S.faults shelf.old ≤ S.faults shelf.new }
     ensures missed_stay { S.missed shelf.old ≤ S.missed shelf.new }

@@ -26,6 +26,3 @@ pub use number::{be16, be32, decimal, le16, le32};
 pub use shelf::{Fault, OpenError, Shelf};
 pub use sink::{OutError, Sink, put};
 pub use system::{DiskShelf, StdSink};
-
-#[cfg(test)]
-mod tests;

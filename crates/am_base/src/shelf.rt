@@ -47,7 +47,8 @@ pub trait Shelf {
     fn read(&mut self, into: &mut [u8]) -> Result<usize, Fault>
         requires { 0 < length into.old }
         ensures bound { IfOk result (λ n. n ≤ length into.new) }
-        ensures taken { IfOk result (λ n. Takes (told self.old) (told self.new) (take n into.new)) }
+        ensures taken { IfOk result
+            (λ n. Takes (told self.old) (told self.new) (take n into.new)) }
         ensures end { IfOk result (λ n. n ≡ 0 → IsAtEnd (told self.old)) }
         ensures unchanged { OnErr result (told self.new ≡ told self.old) }
         ensures failed { OnErr result (Rose (faults self.old) (faults self.new)) }

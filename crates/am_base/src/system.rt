@@ -187,6 +187,3 @@ impl<P: Print + Drop> Sink for StdSink<P> {
         write_to(&self.stream, piece, &mut self.faults)
     }
 }
-
-#[cfg(test)]
-mod tests;

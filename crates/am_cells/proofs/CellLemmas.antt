@@ -3,9 +3,8 @@ use Rattle.std.proofs.Common.{◌≡◌, ◌≢◌, ◌⊎◌, ◌∙◌, ℕ, s
 use Rattle.std.specs.Prelude.{All, sum_by}
 use Rattle.std.proofs.lemmas.Nat.{mul-add-lt, same_from_place, div_below, mod_below}
 use Rattle.std.proofs.Math.Nat.{mul_comm}
-use Rattle.std.proofs.lemmas.List.{get_or-set_same, get_or-set_other, get_or_default, length-set, ext_get_or, drop_all, take_all, append-nil}
-use Rattle.std.proofs.lemmas.List.Sums.{sum_by-set, sum_by-cons, get_or-le-sum_by}
-use Rattle.std.proofs.lemmas.List.Elements.{All-set}
+use Rattle.std.proofs.lemmas.List.{get_or-set_same, get_or-set_other, get_or_default, ext_get_or, drop_all, take_all, append-nil}
+use Rattle.std.proofs.lemmas.List.Sums.{sum_by-set, sum_by-cons}
 use Rattle.am_cells.specs.declared.cell.Cell.{Cell}
 use Rattle.am_cells.specs.declared.cell.TheConstants.{MAX_COUNT}
 use Rattle.am_cells.specs.Counts.{IsLawfulCell, no_packets, together}
@@ -57,23 +56,6 @@ put-adds t flow block more table there =
       };
       total = put-total t (cell_number t flow block) more below;
     }
-
--- and it is a table still
-pub put-table : (t : CellTable) (n : ℕ) (more : Cell) → IsCellTable t → n < length t.cells
-    → IsLawfulCell (together (cell_in t.cells n) more) → total_of t + more.count ≤ MAX_COUNT
-    → IsCellTable (with-cells t (set t.cells n (together (cell_in t.cells n) more)))
-put-table t n more table below lawful room = record {
-  some_flow = table.some_flow;
-  some_block = table.some_block;
-  whole = length-set t.cells n _ ∙ table.whole;
-  few = rw (length-set t.cells n (together (cell_in t.cells n) more)) table.few;
-  lawful = All-set IsLawfulCell t.cells n _ lawful table.lawful;
-  counted = rw (put-total t n more below) room;
-}
-
--- a cell counts no more packets than all
-pub cell-room : (cells : List Cell) (n : ℕ) → n < length cells → (cell_in cells n).count ≤ sum_by (λ (c : Cell). c.count) cells
-cell-room cells n below = get_or-le-sum_by (λ (c : Cell). c.count) cells n no_packets below
 
 -- the packets of each two cells were put together
 pub merged-total : (xs ys zs : List Cell) → length ys ≡ length xs → length zs ≡ length xs

@@ -10,7 +10,10 @@ ghost use Rattle.am_cells.specs.CellTables.{CellTable, IsCellTable, HasCell, Hav
 /// is that of a flow and a block.
 pub fn cells_law()
     ensures same { (a b : CellTable) → IsCellTable a → IsCellTable b → HaveOneShape a b
-        → ((flow block : ℕ) → HasCell a flow block → cell_at b flow block ≡ cell_at a flow block) → a ≡ b }
+        → ((flow block : ℕ) → HasCell a flow block
+        → cell_at b flow block ≡ cell_at a flow block)
+        → a ≡ b }
     ensures places { (t : CellTable) (number : ℕ) → IsCellTable t → number < length t.cells
-        → (flow : ℕ) × (block : ℕ) × HasCell t flow block × (cell_number t flow block ≡ number) }
+        → (flow : ℕ) × (block : ℕ) × HasCell t flow block
+        × (cell_number t flow block ≡ number) }
 {}

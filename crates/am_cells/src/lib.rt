@@ -10,8 +10,6 @@
 mod cell;
 mod cells;
 mod laws;
-#[cfg(test)]
-mod tests;
 
 pub use cell::{Cell, MAX_COUNT, OFFSET_END, Row};
 pub use cells::{Cells, MAX_CELLS};

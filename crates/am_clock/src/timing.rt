@@ -63,8 +63,10 @@ impl Timing {
         ensures valid { IfOk result (λ t. IsTiming t) }
         ensures accepted { IsTiming (times_of block skew delay_min delay_max)
             → result ≡ Ok (times_of block skew delay_min delay_max) }
-        ensures fault { IfErr result (λ e. IsFirstFault (times_of block skew delay_min delay_max) e) }
-        ensures refused { (e : TimingError) → IsFirstFault (times_of block skew delay_min delay_max) e → result ≡ Err e }
+        ensures fault { IfErr result
+            (λ e. IsFirstFault (times_of block skew delay_min delay_max) e) }
+        ensures refused { (e : TimingError)
+            → IsFirstFault (times_of block skew delay_min delay_max) e → result ≡ Err e }
     {
         match first_fault(block, skew, delay_min, delay_max) {
             Some(fault) => Err(fault),
@@ -126,10 +128,14 @@ impl Timing {
         requires { shift ≤ MAX_TIME }
 
         // There is at most one such block, and it is found.
-        ensures found { (n : ℕ) → IsTrue (belongs_to self.now reading colour shift n) → result ≡ Some n }
-        ensures belongs { IfSome result (λ n. IsTrue (belongs_to self.now reading colour shift n)) }
-        ensures none { IfNone result (reading + half self.now < parity colour * self.now.block + shift) }
-        ensures early { reading + half self.now < parity colour * self.now.block + shift → result ≡ None }
+        ensures found { (n : ℕ) → IsTrue (belongs_to self.now reading colour shift n)
+            → result ≡ Some n }
+        ensures belongs { IfSome result
+            (λ n. IsTrue (belongs_to self.now reading colour shift n)) }
+        ensures none { IfNone result
+            (reading + half self.now < parity colour * self.now.block + shift) }
+        ensures early { reading + half self.now < parity colour * self.now.block + shift
+            → result ≡ None }
     {
         let Some(epoch) = self.epoch(reading, shift) else {
             return None;
@@ -141,10 +147,14 @@ impl Timing {
     /// block nothing is divided.
     pub fn attribute_near(&self, likely: u64, reading: u64, colour: bool, shift: u64) -> Option<u64>
         requires { shift ≤ MAX_TIME }
-        ensures found { (n : ℕ) → IsTrue (belongs_to self.now reading colour shift n) → result ≡ Some n }
-        ensures belongs { IfSome result (λ n. IsTrue (belongs_to self.now reading colour shift n)) }
-        ensures none { IfNone result (reading + half self.now < parity colour * self.now.block + shift) }
-        ensures early { reading + half self.now < parity colour * self.now.block + shift → result ≡ None }
+        ensures found { (n : ℕ) → IsTrue (belongs_to self.now reading colour shift n)
+            → result ≡ Some n }
+        ensures belongs { IfSome result
+            (λ n. IsTrue (belongs_to self.now reading colour shift n)) }
+        ensures none { IfNone result
+            (reading + half self.now < parity colour * self.now.block + shift) }
+        ensures early { reading + half self.now < parity colour * self.now.block + shift
+            → result ≡ None }
     {
         if self.belongs(likely, reading, colour, shift) {
             return Some(likely);
@@ -157,7 +167,8 @@ impl Timing {
     fn belongs(&self, number: u64, reading: u64, colour: bool, shift: u64) -> bool
         requires { shift ≤ MAX_TIME }
         ensures valid { IsTiming self.now }
-        ensures belongs { IsTrue result → IsTrue (belongs_to self.now reading colour shift number) }
+        ensures belongs { IsTrue result
+            → IsTrue (belongs_to self.now reading colour shift number) }
     {
         let half = self.block / 2;
         if colour_of(number) != colour {
@@ -188,7 +199,8 @@ impl Timing {
         requires { shift ≤ MAX_TIME }
         ensures first { (n : ℕ) → (result.0 ≤ n) ↔ StartsIn self.now from shift n }
         ensures count { (n : ℕ) → (n < result.1) ↔ EndsIn self.now until shift n }
-        ensures covered { (n : ℕ) → ((result.0 ≤ n) × (n < result.1)) ↔ IsCovered self.now from until shift n }
+        ensures covered { (n : ℕ) → ((result.0 ≤ n) × (n < result.1))
+            ↔ IsCovered self.now from until shift n }
     {
         (self.first_from(from, shift), self.count_until(until, shift))
     }
@@ -239,7 +251,8 @@ impl Timing {
 
 // The first fault of four numbers, if they have one.
 fn first_fault(block: u64, skew: u64, delay_min: u64, delay_max: u64) -> Option<TimingError>
-    ensures found { IfSome result (λ e. IsFirstFault (times_of block skew delay_min delay_max) e) }
+    ensures found { IfSome result
+        (λ e. IsFirstFault (times_of block skew delay_min delay_max) e) }
     ensures valid { IfNone result (IsTiming (times_of block skew delay_min delay_max)) }
 {
     if block == 0 {
@@ -296,143 +309,4 @@ pub fn colour_of(block: u64) -> bool
     ensures { block % 2 ≡ parity result }
 {
     block % 2 == 1
-}
-
-#[cfg(test)]
-mod tests {
-    use super::*;
-
-    const SECOND: u64 = 1_000_000_000;
-
-    #[test]
-    fn colour_and_reading_name_one_block_or_none(rt: HostRuntime) {
-        let timing = Timing::new(10 * SECOND, SECOND, 0, 2 * SECOND).expect(&rt, "a timing");
-        for (reading, colour, wanted) in [
-            (10_200_000_000, false, Some(0)),
-            (14_999_999_999, false, Some(0)),
-            (15_000_000_000, false, Some(2)),
-            (4_999_999_999, true, None),
-            (5_000_000_000, true, Some(1)),
-            (u64::MAX, true, Some(1_844_674_407)),
-            (u64::MAX, false, Some(1_844_674_406)),
-        ] {
-            assert_eq!(rt;
-                timing.attribute(reading, colour, 0),
-                wanted,
-                "at {reading}"
-            );
-            // Whatever block is likely: the right one, others of either colour, and one behind every reading.
-            for likely in [0, 1, 2, 1_844_674_406, 1_844_674_407, u64::MAX] {
-                assert_eq!(rt;
-                    timing.attribute_near(likely, reading, colour, 0),
-                    wanted,
-                    "at {reading} near {likely}"
-                );
-            }
-        }
-    }
-
-    #[test]
-    fn windows_are_later_by_the_shift(rt: HostRuntime) {
-        let timing = Timing::new(10 * SECOND, SECOND, 0, 2 * SECOND).expect(&rt, "a timing");
-        assert_eq!(rt; timing.attribute(6_999_999_999, false, 12 * SECOND), None);
-        assert_eq!(rt;
-            timing.attribute(7_000_000_000, false, 12 * SECOND),
-            Some(0)
-        );
-        assert_eq!(rt;
-            timing.attribute(u64::MAX, true, 1 << 40),
-            Some(1_844_674_297)
-        );
-    }
-
-    #[test]
-    fn the_shortest_block_reaches_the_last_reading(rt: HostRuntime) {
-        let timing = Timing::new(2, 0, 7, 7).expect(&rt, "a timing");
-        assert_eq!(rt; timing.attribute(u64::MAX, false, 0), Some(1 << 63));
-        assert_eq!(rt; timing.attribute(u64::MAX, true, 0), Some((1 << 63) - 1));
-        assert_eq!(rt; timing.block_of(u64::MAX), (1 << 63) - 1);
-        assert_eq!(rt; colour_of(timing.block_of(u64::MAX)), true);
-    }
-
-    #[test]
-    fn a_span_covers_the_blocks_whose_windows_it_holds(rt: HostRuntime) {
-        let timing = Timing::new(10 * SECOND, SECOND, 0, 2 * SECOND).expect(&rt, "a timing");
-        for (from, until, shift, wanted) in [
-            (0, 40 * SECOND, 0, (0, 3)),
-            (1, 40 * SECOND, 0, (1, 3)),
-            (0, 45 * SECOND, 0, (0, 4)),
-            (0, 44_999_999_999, 0, (0, 3)),
-            (7 * SECOND, 40 * SECOND, 2 * SECOND, (1, 3)),
-            (7_000_000_001, 40 * SECOND, 2 * SECOND, (2, 3)),
-            (0, 0, 0, (0, 0)),
-            (u64::MAX, u64::MAX, 0, (1_844_674_408, 1_844_674_406)),
-            (0, u64::MAX, 1 << 40, (0, 1_844_674_296)),
-        ] {
-            assert_eq!(rt;
-                timing.covered(from, until, shift),
-                wanted,
-                "from {from} until {until}"
-            );
-        }
-        let shortest = Timing::new(2, 0, 7, 7).expect(&rt, "a timing");
-        assert_eq!(rt;
-            shortest.covered(u64::MAX, u64::MAX, 0),
-            (1 << 63, (1 << 63) - 1)
-        );
-    }
-
-    #[test]
-    fn the_first_fault_is_told(rt: HostRuntime) {
-        for (block, skew, delay_min, delay_max, wanted) in [
-            (0, SECOND, 0, SECOND, TimingError::ZeroBlock),
-            (9, SECOND, 0, SECOND, TimingError::OddBlock),
-            (
-                1_099_511_627_778,
-                SECOND,
-                0,
-                SECOND,
-                TimingError::BlockTooLong,
-            ),
-            (
-                10 * SECOND,
-                SECOND,
-                0,
-                1_099_511_627_777,
-                TimingError::DelayTooLong,
-            ),
-            (10 * SECOND, SECOND, 3, 2, TimingError::BoundsCrossed),
-            (
-                10 * SECOND,
-                SECOND,
-                0,
-                4 * SECOND,
-                TimingError::GuardTooWide {
-                    guard: 5_000_000_000,
-                    half: 5_000_000_000,
-                },
-            ),
-            (
-                10 * SECOND,
-                u64::MAX,
-                0,
-                1,
-                TimingError::GuardTooWide {
-                    guard: 18_446_744_073_709_551_616,
-                    half: 5_000_000_000,
-                },
-            ),
-        ] {
-            assert_eq!(rt; Timing::new(block, skew, delay_min, delay_max), Err(wanted));
-        }
-    }
-
-    #[test]
-    fn the_widest_guard_below_half_a_block_is_accepted(rt: HostRuntime) {
-        let timing = Timing::new(10 * SECOND, SECOND, 0, 3_999_999_999).expect(&rt, "a timing");
-        assert_eq!(rt; timing.block(), 10 * SECOND);
-        assert_eq!(rt; timing.skew(), SECOND);
-        assert_eq!(rt; timing.delay_min(), 0);
-        assert_eq!(rt; timing.delay_max(), 3_999_999_999);
-    }
 }

@@ -11,8 +11,7 @@ use Rattle.std.specs.List.Sorted.{IsNonDecreasingBy, IsPermutation, IsPartitionP
 use Rattle.std.specs.Ordering.{nat_cmp, ordering_index}
 use Rattle.std.specs.declared.cmp.Ordering.TheVariants.{Less, Equal, Greater}
 use Rattle.am_domain.specs.Values.{FlowValue}
-use Rattle.am_domain.specs.Lookups.{IsFirstWith, NoneHas, HasId}
-use Rattle.am_domain.specs.Rules.{AreDistinct, SameFlowId}
+use Rattle.am_domain.specs.Lookups.{NoneHas, HasId}
 use Rattle.am_domain.specs.Numbers.{IsNumbered, AreNumbers}
 use Rattle.am_domain.specs.declared.numbers.Numbered.{Numbered}
 
@@ -104,17 +103,6 @@ none-at xs id k up parted j d lt same =
 -- the flow of a number that is among them
 numbered : (flows : List FlowValue) (numbers : List Numbered) (x : Numbered) → AreNumbers flows numbers → Contains numbers x → IsNumbered flows x
 numbered flows numbers x are at = subst (IsNumbered flows) at.2 (are.each at.0 x at.1)
-
-pub first-numbered :
-    (flows : List FlowValue) (numbers : List Numbered) (id at : ℕ) → AreNumbers flows numbers → AreDistinct SameFlowId flows
-    → Contains numbers (record { id = id; at = at }) → IsFirstWith (HasId id) flows at
-first-numbered flows numbers id at are distinct here =
-    let n = numbered flows numbers (record { id = id; at = at }) are here in
-    record {
-      within = n.within;
-      before = λ k d lt same. distinct at d n.within k d lt (same ∙ sym (n.here d));
-      here = λ d. n.here d;
-    }
 
 pub none-numbered :
     (flows : List FlowValue) (numbers : List Numbered) (id : ℕ) → AreNumbers flows numbers → All (λ n. n.id ≢ id) numbers

@@ -11,7 +11,8 @@ use am_clock::{MAX_TIME, Timing};
 
 /// The shift of a node, in nanoseconds: 0 where no link ends at it, else the least delay, whatever the nodes are.
 pub(crate) fn shift_of(timing: &Timing, edges: &[Edge], node: u32) -> u64
-    ensures value { (nodes : List NodeValue) → result ≡ shift_at timing.now nodes edges.now node }
+    ensures value { (nodes : List NodeValue)
+        → result ≡ shift_at timing.now nodes edges.now node }
     ensures most { result ≤ MAX_TIME }
 {
     if has_links_in(edges, node) {

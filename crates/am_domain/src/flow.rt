@@ -1,8 +1,6 @@
 //! Flows: which packets are measured together.
 
 ghost use Rattle.std.specs.Prelude.{◌≡◌, ℕ, IfOk, IfErr, true, false};
-ghost use Rattle.toml.specs.View.{table_view};
-ghost use Rattle.am_domain.specs.Entries.{TellsKey};
 ghost use Rattle.am_domain.specs.Tables.{SaysFlow};
 ghost use Rattle.am_domain.specs.declared.error.Part.TheVariants as part;
 

@@ -102,7 +102,8 @@ fn ends_at(lengths: Lengths, source: &Addr, destination: &Addr) -> Ends
 // Adds a pair of lengths, if it isn't there.
 fn add_lengths(all: &mut Vec<Lengths>, more: Lengths) -> Result<(), AllocError>
     ensures added { OnOk result (Contains all.new.items more) }
-    ensures kept { OnOk result ((x : Lengths) → Contains all.old.items x → Contains all.new.items x) }
+    ensures kept { OnOk result ((x : Lengths) → Contains all.old.items x
+        → Contains all.new.items x) }
 {
     if all.as_slice().contains(&more) {
         return Ok(());

@@ -25,8 +25,6 @@ mod node;
 mod numbers;
 mod repeats;
 mod table;
-#[cfg(test)]
-mod tests;
 
 pub use domain::{Domain, MAX_DOMAIN, read_domain};
 pub use error::{DomainError, Key, Part, Repeated};

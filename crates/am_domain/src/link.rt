@@ -1,8 +1,6 @@
 //! Links, as the file says them: the names of the nodes that each leads from and to.
 
 ghost use Rattle.std.specs.Prelude.{◌≡◌, ℕ, IfOk, IfErr, true, false};
-ghost use Rattle.toml.specs.View.{table_view};
-ghost use Rattle.am_domain.specs.Entries.{TellsKey};
 ghost use Rattle.am_domain.specs.Tables.{SaysLink};
 ghost use Rattle.am_domain.specs.declared.error.Part.TheVariants as part;
 

@@ -63,7 +63,8 @@ pub(crate) fn join_links(
 
 /// The first link that leads from a node to itself.
 pub(crate) fn self_link(links: &[Link]) -> Option<usize>
-    ensures found { IfSome result (λ i. IsFirstPlace EndsDiffer (λ l. l.from ≡ l.to) links.now i) }
+    ensures found { IfSome result (λ i. IsFirstPlace EndsDiffer
+        (λ l. l.from ≡ l.to) links.now i) }
     ensures none { IfNone result (Each EndsDiffer links.now) }
 {
     for i in 0..links.len() {
@@ -95,7 +96,8 @@ fn link_at(links: &[Link], name: &str) -> Option<usize>
     ensures within { IfSome result (λ i. i < length links.now) }
     ensures found { IfSome result (λ i.
         (d : LinkValue) → IsAt name.now (slice_index_or links.now i d)) }
-    ensures none { IfNone result (AllBelow (λ l. ¬ IsAt name.now l) (length links.now) links.now) }
+    ensures none { IfNone result (AllBelow
+        (λ l. ¬ IsAt name.now l) (length links.now) links.now) }
 {
     for i in 0..links.len() {
         let link = &links[i];

@@ -1,8 +1,6 @@
 //! Nodes: where packets are seen, and in which capture.
 
 ghost use Rattle.std.specs.Prelude.{◌≡◌, ℕ, IfOk, IfErr, true, false};
-ghost use Rattle.toml.specs.View.{table_view};
-ghost use Rattle.am_domain.specs.Entries.{TellsKey};
 ghost use Rattle.am_domain.specs.Tables.{SaysNode};
 ghost use Rattle.am_domain.specs.declared.error.Part.TheVariants as part;
 

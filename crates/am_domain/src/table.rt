@@ -143,7 +143,8 @@ pub(crate) fn name_at<'a>(table: &'a Table, key: &str) -> Option<&'a str>
 /// The name of a file at a key. None where none stands there.
 pub(crate) fn file_name_at<'a>(table: &'a Table, key: &str) -> Option<&'a str>
     ensures only { IfSome result (λ s. IsFileNameAt (at_text table.now key.now) s.now) }
-    ensures none { IfNone result ((s : List ℕ) → IsFileNameAt (at_text table.now key.now) s → ⊥) }
+    ensures none { IfNone result ((s : List ℕ) → IsFileNameAt (at_text table.now key.now) s
+        → ⊥) }
 {
     let Some(text) = text_at(table, key) else {
         return None;
@@ -157,7 +158,8 @@ pub(crate) fn file_name_at<'a>(table: &'a Table, key: &str) -> Option<&'a str>
 /// The prefix at a key. None where the text of none stands there.
 pub(crate) fn prefix_at(table: &Table, key: &str) -> Option<Prefix>
     ensures only { IfSome result (λ p. IsPrefixAt (at_text table.now key.now) p) }
-    ensures none { IfNone result ((span : Span) → IsPrefixAt (at_text table.now key.now) span → ⊥) }
+    ensures none { IfNone result ((span : Span) → IsPrefixAt (at_text table.now key.now) span
+        → ⊥) }
 {
     let Some(text) = text_at(table, key) else {
         return None;

@@ -1,5 +1,5 @@
 -- Tables of what lies beside each place, one pair after another.
-use Rattle.std.proofs.Common.{◌≡◌, ℕ, ◌+◌, ◌<◌, ◌⊎◌, ◌↔◌, List, [], ◌∷◌, ◌++◌, Contains, length, replicate, inl, inr, refl, sym, ap, ◌∙◌, subst, arith}
+use Rattle.std.proofs.Common.{◌≡◌, ℕ, ◌+◌, ◌<◌, ◌⊎◌, ◌↔◌, List, [], ◌∷◌, ◌++◌, Contains, length, inl, inr, refl, sym, ap, ◌∙◌, subst, arith}
 use Rattle.std.proofs.Math.ListN.{length-set}
 use Rattle.std.proofs.lemmas.List.{get_or-set_same, get_or-set_other}
 use Rattle.std.proofs.lemmas.List.Elements.{Contains-append_left, Contains-push, Contains-push_cases}
@@ -7,8 +7,6 @@ use Rattle.std.proofs.lemmas.Bool.{cases_lt, cases_eq}
 use Rattle.am_graph.specs.Lists.{list_at, with_item}
 use Rattle.am_domain.specs.declared.link.Edge.{Edge}
 use Rattle.am_graph.specs.Graphs.{IsTable, IsIndexed, Leads, start_of, end_of}
-use Rattle.am_graph.proofs.WalkLemmas.{nothing}
-use Rattle.am_graph.proofs.PlaceLemmas.{empty-at}
 
 -- one of the first n pairs is this one
 pub record IsPair (place_of item_of : ℕ → ℕ) (n place item : ℕ) : Type 0 where
@@ -16,15 +14,6 @@ pub record IsPair (place_of item_of : ℕ → ℕ) (n place item : ℕ) : Type 0
   pub within : number < n
   pub place_is : place_of number ≡ place
   pub item_is : item_of number ≡ item
-
-pub table-none : (f g : ℕ → ℕ) (count : ℕ) (lists : List (List ℕ)) → lists ≡ replicate count [] → length lists ≡ count → IsTable (IsPair f g 0) count lists
-table-none f g count lists is each = record {
-  each = each;
-  has = λ place item. (
-    λ h. absurd (nothing item (subst (λ xs. Contains xs item) (ap (λ ls. list_at ls place) is ∙ empty-at count place) h)),
-    λ h. absurd (omega (arith, h.within)),
-  );
-}
 
 pair-old : (f g : ℕ → ℕ) (n place item : ℕ) → IsPair f g n place item → IsPair f g (n + 1) place item
 pair-old f g n place item p = record { number = p.number; within = omega (arith, p.within); place_is = p.place_is; item_is = p.item_is }

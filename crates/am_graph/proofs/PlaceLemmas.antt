@@ -5,20 +5,12 @@ use Rattle.std.proofs.Math.Seq.{get_or-append_seam}
 use Rattle.std.proofs.lemmas.List.Elements.{Contains-append_left, Contains-push, Contains-push_cases}
 use Rattle.std.proofs.lemmas.Bool.{cases_lt, cases_eq}
 use Rattle.am_graph.specs.Lists.{list_at, with_item, Ascends, IsListOf}
-use Rattle.am_graph.proofs.WalkLemmas.{nothing}
 
 -- the list of those that have P is that of those that have Q, where these are the same
 pub list-same : (P Q : ℕ → Type 0) (xs : List ℕ) → ((x : ℕ) → P x → Q x) → ((x : ℕ) → Q x → P x) → IsListOf P xs → IsListOf Q xs
 list-same P Q xs to from l = record {
   ascends = l.ascends;
   has = λ x. (λ h. to x ((l.has x).0 h), λ h. (l.has x).1 (from x h));
-}
-
--- no number is below 0
-pub list-none : (P : ℕ → Type 0) → IsListOf (λ x. (x < 0) × P x) []
-list-none P = record {
-  ascends = λ i j lt within. absurd (omega (arith, within));
-  has = λ x. (λ h. absurd (nothing x h), λ h. absurd (omega (arith, h.0)));
 }
 
 -- a number that has not P adds nothing
@@ -90,10 +82,6 @@ pub empty-at : (n c : ℕ) → list_at (replicate n []) c ≡ []
 empty-at zero c = refl
 empty-at (suc n) zero = refl
 empty-at (suc n) (suc c) = empty-at n c
-
--- no number yet
-pub lists-none : (P : ℕ → ℕ → Type 0) (n : ℕ) → (c : ℕ) → IsListOf (λ x. (x < 0) × P c x) (list_at (replicate n []) c)
-lists-none P n c = subst (IsListOf (λ x. (x < 0) × P c x)) (sym (empty-at n c)) (list-none (P c))
 
 -- lists that others hold: one more item in the one at this place
 pub pushed :

@@ -9,21 +9,6 @@ use Rattle.std.proofs.lemmas.Bool.{cases_eq}
 use Rattle.am_graph.specs.Lists.{list_at}
 use Rattle.am_graph.specs.Walks.{Reaches, IsReached, IsBeside, cluster_at, unreached}
 
--- no node was given the cluster where nothing changed
-unchanged : (cluster : ℕ) (old : List (Option ℕ)) (node : ℕ) → IsReached cluster old old node → ⊥
-unchanged cluster old node r = let has = r.has in let had = r.had in cc
-
--- nothing is done for none
-pub reaches-none : (These : ℕ → Type 0) (cluster : ℕ) (old : List (Option ℕ)) (wave : List ℕ)
-    → ((node : ℕ) → These node → cluster_at old node ≢ None) → Reaches These cluster old old wave wave
-reaches-none These cluster old wave all = record {
-  same = refl;
-  each = λ node. inl refl;
-  all = all;
-  wave = λ node. (λ h. inl h, λ h. elim h [ inl x ↦ x | inr y ↦ absurd (unchanged cluster old node y) ]);
-  fewer = refl;
-}
-
 -- a step for some nodes and then one for others is one for all
 pub reaches-both :
     (These Those Both : ℕ → Type 0) (cluster : ℕ) (old mid new : List (Option ℕ)) (before between after : List ℕ)

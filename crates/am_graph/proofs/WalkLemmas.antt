@@ -4,7 +4,7 @@ use Rattle.am_domain.specs.declared.link.Edge.{Edge}
 use Rattle.am_graph.specs.Lists.{list_at}
 use Rattle.am_graph.specs.Graphs.{Leads, IsTable, start_of, end_of}
 use Rattle.am_graph.specs.Clusters.{AreNeighbours, IsLinkChain, AreJoined}
-use Rattle.am_graph.specs.Walks.{Reaches, IsBeside, AreSettled, IsUnused, Adds, BeginsJoined, EndsJoined, Walks, cluster_at, unreached}
+use Rattle.am_graph.specs.Walks.{Reaches, IsBeside, AreSettled, IsUnused, Adds, BeginsJoined, EndsJoined, Walks, cluster_at}
 
 -- a chain goes on with a neighbour of its last link
 chain-more : (links : List Edge) (a b c : ℕ) (chain : List ℕ) → IsLinkChain links a chain b → c < length links → AreNeighbours links b c → IsLinkChain links a (chain ++ c ∷ []) c
@@ -274,9 +274,3 @@ walking-done links link cluster old_starts old_ends starts ends wave w empty = r
   begin_joined = w.underway.of_near;
   end_joined = w.underway.of_far;
 }
-
--- a wave has as many nodes as it reached, so each leaves fewer that were not reached or wait
-pub walking-fewer :
-    (These : ℕ → Type 0) (cluster : ℕ) (starts new : List (Option ℕ)) (wave next : List ℕ) → 0 < length wave → Reaches These cluster starts new [] next
-    → unreached new + length next < unreached starts + length wave
-walking-fewer These cluster starts new wave next some r = omega (arith, some, r.fewer)

@@ -79,7 +79,8 @@ impl Graph {
 
     /// The nodes from which links lead to each node.
     pub(crate) fn back(&self) -> &Lists
-        ensures { IsTable (λ end start. Leads self.now.links start end) self.now.nodes result.now }
+        ensures { IsTable
+            (λ end start. Leads self.now.links start end) self.now.nodes result.now }
     {
         &self.back
     }

@@ -14,8 +14,6 @@ mod find;
 mod graph;
 mod lists;
 mod place;
-#[cfg(test)]
-mod tests;
 mod walk;
 
 pub use clusters::Clusters;

@@ -14,7 +14,8 @@ pub(crate) fn clusters_of(
     links: &[Edge],
     starts: &[Option<u32>],
 ) -> Result<Vec<u32>, AllocError>
-    requires within { (k : ℕ) → k < length links.now → start_of links.now k < length starts.now }
+    requires within { (k : ℕ) → k < length links.now
+        → start_of links.now k < length starts.now }
     requires reached { (k : ℕ) → k < length links.now
         → cluster_at starts.now (start_of links.now k) ≢ None }
     ensures each { IfOk result (λ v. length v.items ≡ length links.now) }
@@ -54,10 +55,12 @@ pub(crate) fn place_nodes(
     count: u32,
 ) -> Result<Lists, AllocError>
     requires few { length clusters.now ≤ 128 }
-    requires below { (node cluster : ℕ) → cluster_at clusters.now node ≡ Some cluster → cluster < count }
+    requires below { (node cluster : ℕ) → cluster_at clusters.now node ≡ Some cluster
+        → cluster < count }
     ensures each { IfOk result (λ lists. length lists ≡ count) }
     ensures value { IfOk result (λ lists. (cluster : ℕ) → cluster < count
-        → IsListOf (λ node. cluster_at clusters.now node ≡ Some cluster) (list_at lists cluster)) }
+        → IsListOf
+        (λ node. cluster_at clusters.now node ≡ Some cluster) (list_at lists cluster)) }
 {
     let mut lists = Lists::empty(alloc, count as usize)?;
     for node in 0..clusters.len() {

@@ -4,7 +4,6 @@
 //! reaches the ends of its links, and an end the starts of its links. Each side of a node is reached once, so its
 //! list of links is gone through once.
 ghost use Rattle.std.specs.Prelude.{◌≡◌, ◌<◌, ◌≤◌, ℕ, [], None, Contains, IfOk, OnOk, length};
-ghost use Rattle.std.specs.List.{All};
 ghost use Rattle.am_graph.specs.Lists.{list_at};
 ghost use Rattle.am_graph.specs.Graphs.{start_of};
 ghost use Rattle.am_graph.specs.Walks.{Reaches, IsBeside, AreSettled, IsUnused, Walks, cluster_at};

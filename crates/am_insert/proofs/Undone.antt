@@ -142,11 +142,6 @@ seen_passed :
 seen_passed HopByHop p w hs e seen = seen.0
 seen_passed Destination p w hs e seen = seen.0
 
--- the kind of headers that marks are looked for in isn't Routing
-kind_walked : (place : Place) → kind_of place ≢ 43
-kind_walked HopByHop = λ e. omega (arith, e)
-kind_walked Destination = λ e. omega (arith, e)
-
 -- a header of the kind that was passed has no mark
 unmarked_of : (kind : ℕ) (h : Lent) → h.kind ≡ kind → IsPassed kind h → HasNoMark (drop 2 h.bytes)
 unmarked_of kind h is passed = ⊎_elim (λ other. absurd (other is)) (λ both. both.1) passed

@@ -7,18 +7,17 @@
 
 ghost use Rattle.std.specs.Prelude.{◌≡◌, ◌≢◌, ◌<◌, ◌≤◌, ◌+◌, ℕ, List, Bool, length, slice_index, IfOk, IfErr, OnOk, IfSome, IsSomeAnd, MatchOption, IsOk, None, Err};
 ghost use Rattle.std.specs.Bool.{MatchBool};
-ghost use Rattle.std.specs.Option.{ForSome};
-ghost use Rattle.am_ip6.specs.Fixed.{IsFixed, payload_of};
-ghost use Rattle.am_ip6.specs.Chains.{Lent, HasHeaders, Stands};
+ghost use Rattle.am_ip6.specs.Fixed.{payload_of};
+ghost use Rattle.am_ip6.specs.Chains.{Lent, HasHeaders};
 ghost use Rattle.am_ip6.specs.Endings.Ended.{AtNumber};
 ghost use Rattle.am_ip6.specs.Marks.Seen.{NoMark};
 ghost use Rattle.am_ip6.specs.Seen.{IsSeen};
 ghost use Rattle.am_ip6.specs.Brief.{IsBrief, WalksBriefly};
 ghost use Rattle.am_ip6.specs.Shown.{lent};
 ghost use Rattle.am_insert.specs.Changes.{IsBytes, kind_of, spot_of_new};
-ghost use Rattle.am_insert.specs.Inserting.{Inserted, PutsHeader, Lengthens, WalkEnds, IsNoPacket, IsUnmarked, IsMarkedAt, IsFullHeader, HindersFirst, IsOpen};
+ghost use Rattle.am_insert.specs.Inserting.{Inserted, PutsHeader, Lengthens, WalkEnds, IsNoPacket, IsUnmarked, IsMarkedAt, HindersFirst, IsOpen};
 ghost use Rattle.am_insert.specs.Edits.{edited, IsEditOf};
-ghost use Rattle.am_insert.specs.Parts.{FindsFirst, FollowsHeaders, Bounds, IsEight, IsNewSpot, HasRoom, HindersEach};
+ghost use Rattle.am_insert.specs.Parts.{FollowsHeaders, Bounds, IsEight, IsNewSpot, HasRoom, HindersEach};
 
 use crate::edit::Edit;
 use crate::shape::{first_header, number_of, payload};
@@ -220,7 +219,8 @@ fn is_no_packet(bytes: &[u8], whole: bool) -> bool
 // What follows the headers of a packet, or how its walk ends elsewhere.
 fn announced_end(bytes: &[u8], whole: bool) -> Result<Announced, InsertError>
     requires { IsNoPacket bytes.now whole → ⊥ }
-    ensures ends { IfOk result (λ s. WalkEnds bytes.now whole (AtNumber s.next s.at s.told_at)) }
+    ensures ends { IfOk result
+        (λ s. WalkEnds bytes.now whole (AtNumber s.next s.at s.told_at)) }
     ensures follows { IfOk result (λ s. FollowsHeaders bytes.now s) }
     ensures hinders { IfErr result (λ e. HindersEach bytes.now whole e) }
 {
@@ -235,7 +235,8 @@ fn announced_end(bytes: &[u8], whole: bool) -> Result<Announced, InsertError>
 // The place of the first mark in this kind of header of a packet whose headers end at a number.
 fn marked_at(bytes: &[u8], whole: bool, place: Place, end: Announced) -> Option<usize>
     requires { WalkEnds bytes.now whole (AtNumber end.next end.at end.told_at) }
-    ensures { MatchOption result (IsSeen bytes.now whole place NoMark) (λ at. IsMarkedAt bytes.now whole place at) }
+    ensures { MatchOption result (IsSeen bytes.now whole place NoMark)
+        (λ at. IsMarkedAt bytes.now whole place at) }
 {
     walk_law();
     match find_mark(bytes, whole, place) {

@@ -16,8 +16,6 @@ mod laws;
 mod message;
 mod shape;
 mod strip;
-#[cfg(test)]
-mod tests;
 
 pub use edit::Edit;
 pub use insert::{InsertError, plan_insert};

@@ -1,6 +1,5 @@
 //! What is said of a packet that no mark goes into.
 ghost use Rattle.std.specs.Prelude.{◌≡◌, Some};
-ghost use Rattle.std.specs.Fmt.{WritesOnOk};
 ghost use Rattle.am_insert.specs.InsertTexts.{insert_text};
 
 use crate::insert::InsertError;

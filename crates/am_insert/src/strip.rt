@@ -54,7 +54,8 @@ struct MarkedHeader<'a> {
 ///
 /// None exactly where there is no mark, or the first one stands in none of the two shapes in which marks are put in.
 pub fn plan_strip(bytes: &[u8], whole: bool, place: Place) -> Option<(Mark, Edit)>
-    ensures stripped { IfSome result (λ r. Stripped bytes.now r.0 place (edited r.1 bytes.now)) }
+    ensures stripped { IfSome result
+        (λ r. Stripped bytes.now r.0 place (edited r.1 bytes.now)) }
     ensures edit { IfSome result (λ r. IsEditOf r.1 bytes.now) }
     // Eight bytes go out.
     ensures fewer { IfSome result (λ r. r.1.eight ≡ None) }

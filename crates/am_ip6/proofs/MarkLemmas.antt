@@ -17,10 +17,6 @@ six (t ∷ n ∷ body) x y z w o e =
     let size : length body ≤ 4 = omega (arith, o.1, four) in
     sym (take_all 6 (t ∷ n ∷ body) (omega (arith, size)))
 
-pub spells_all : (bs : List ℕ) (m : Marking) → IsOption bs → Spells (take 6 bs) m → Spells bs m
-spells_all bs m o s =
-    subst (λ x. Spells x m) (sym (six bs s.x s.y s.z s.w o s.spelled)) s
-
 -- an option no front of which spells a mark is none
 pub spells_none :
     (o : Placed) → ((n : ℕ) (m : Marking) → n ≤ length o.bytes → Spells (take n o.bytes) m → ⊥) → IsNoMark o

@@ -5,7 +5,7 @@ use Rattle.std.proofs.lemmas.List.{length-take-le, length-drop}
 use Rattle.am_opts.specs.Marking.{Marking}
 use Rattle.am_ip6.specs.Fixed.{IsFixed}
 use Rattle.am_ip6.specs.Chains.{Lent, Spot, Stands, IsWalked, IsChain, IsLongestChain, HasHeaders, first_spot, spot_behind, spot_after, header_length}
-use Rattle.am_ip6.specs.Endings.{Ended, EndsAt, EndsEarly, EndsSo}
+use Rattle.am_ip6.specs.Endings.{Ended, EndsAt, EndsSo}
 use Rattle.am_ip6.specs.Endings.Ended.{AtNumber, WasCut, IsMalformed}
 use Rattle.am_ip6.specs.Marks.{IsPassed, MarksHeader, MarksChain, HidesHopByHop, Seen, SeenInHopByHop, SeenInDestination}
 use Rattle.am_ip6.specs.Marks.Seen.{Marks, NoMark, CutOff}
@@ -41,14 +41,6 @@ cut-alike b w s WasCut (AtNumber n a t) p q is = absurd (q.1 p.0.walked)
 cut-alike b w s WasCut WasCut p q is = refl
 cut-alike b w s WasCut (IsMalformed x) p q is = absurd (⊎_elim (λ l. l.1 p.1) (λ o. p.0.lacks o.fits) q)
 
-pub cut-alike-early : (b : List ℕ) (w : Bool) (e f : Ended) → EndsEarly b w e → EndsEarly b w f → e ≡ WasCut → f ≡ WasCut
-cut-alike-early b w (AtNumber n a t) f p q is = cc
-cut-alike-early b w (IsMalformed x) f p q is = cc
-cut-alike-early b w WasCut (AtNumber n a t) p q is = absurd q
-cut-alike-early b w WasCut WasCut p q is = refl
-cut-alike-early b w WasCut (IsMalformed x) p q is =
-    absurd (⊎_elim (λ o. p.0.version o.0) (λ o. not_both w p.1 o.1) q)
-
 -- what no mark before an ending means at another that is cut where it is
 unless-alike :
     (e f : Ended) (seen : Seen) → (e ≡ WasCut → f ≡ WasCut) → (f ≡ WasCut → e ≡ WasCut) → IsUnlessCut e seen → IsUnlessCut f seen
@@ -62,15 +54,6 @@ destination-none :
 destination-none b w hs f (Marks mark at) all u = absurd u
 destination-none b w hs f NoMark all u = (all, u)
 destination-none b w hs f CutOff all u = (all, u)
-
--- nothing is found in a packet without a fixed header
-pub destination-early :
-    (b : List ℕ) (w : Bool) (e f : Ended) (seen : Seen) (hs : List Lent) → (IsFixed b → ⊥) → EndsEarly b w e → IsUnlessCut e seen
-    → HasHeaders b hs → EndsSo b w hs f → SeenInDestination b w hs f seen
-destination-early b w e f seen hs n ends u has so =
-    let other = so.other n in
-    destination-none b w hs f seen (subst (λ x. All (IsPassed 60) x) (sym (has.other n)) (All-nil (IsPassed 60)))
-    (unless-alike e f seen (cut-alike-early b w e f ends other) (cut-alike-early b w f e other ends) u)
 
 -- nor where all headers were passed
 pub destination-end :
@@ -108,15 +91,6 @@ hop-none b w hs f NoMark is hides u =
     (subst (λ x. All (IsPassed 0) x) (sym is) (All-nil (IsPassed 0)), inr (λ cut. u cut.0))
 hop-none b w hs f CutOff is hides u =
     (subst (λ x. All (λ h. h.kind ≢ 0) x) (sym is) (All-nil (λ h. h.kind ≢ 0)), u, hides u)
-
-pub hop-early :
-    (b : List ℕ) (w : Bool) (e f : Ended) (seen : Seen) (hs : List Lent) → (IsFixed b → ⊥) → EndsEarly b w e → IsUnlessCut e seen
-    → HasHeaders b hs → EndsSo b w hs f → SeenInHopByHop b w hs f seen
-hop-early b w e f seen hs n ends u has so =
-    let other = so.other n in
-    hop-none b w hs f seen (has.other n)
-    (λ is. let cut = subst (λ x. EndsEarly b w x) is other in inl cut.0.short)
-    (unless-alike e f seen (cut-alike-early b w e f ends other) (cut-alike-early b w f e other ends) u)
 
 -- a fixed header that announces another number
 pub hop-other :

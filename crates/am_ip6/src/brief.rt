@@ -27,7 +27,8 @@ impl Brief {
             IsBrief bytes.now mark next → ⊥) }
 
         // Its headers, its ending and its marks.
-        ensures walk { IfSome result (λ b. (whole : Bool) → WalksBriefly bytes.now b.mark b.next whole) }
+        ensures walk { IfSome result (λ b. (whole : Bool)
+            → WalksBriefly bytes.now b.mark b.next whole) }
     {
         if !begins_with_fixed(bytes) {
             return None;

@@ -6,7 +6,7 @@
 
 ghost use Rattle.std.specs.Prelude.{◌≡◌, ◌+◌, ◌^◌, ◌<◌, ◌≤◌, IfOk, OnOk, IfErr, OnErr, IfSome, MatchOption, take, drop, length};
 ghost use Rattle.std.specs.Bool.{MatchBool};
-ghost use Rattle.am_ip6.specs.Fixed.{IsFixed, limit_of, parts_of};
+ghost use Rattle.am_ip6.specs.Fixed.{IsFixed, limit_of};
 ghost use Rattle.am_ip6.specs.Chains.{IsWalked, FitsAt, Stands, first_spot, spot_behind, header_length};
 ghost use Rattle.am_ip6.specs.Endings.{IsOtherVersion, LacksBytes, MayBeCut, EndsAt, EndsEarly};
 ghost use Rattle.am_ip6.specs.Marks.{ShowsMark, BreaksAt};
@@ -118,7 +118,8 @@ pub(crate) fn step<'a>(
     ensures behind { IfOk result (λ r. spot_shown r.2 ≡ spot_behind bytes.now (lent r.0)) }
     ensures on { IfOk result (λ r. spot.at + 8 ≤ r.2.at) }
     ensures within { IfOk result (λ r. r.2.at ≤ limit_of bytes.now) }
-    ensures ends { IfErr result (λ e. EndsAt bytes.now whole (spot_shown spot) (ending_shown e)) }
+    ensures ends { IfErr result
+        (λ e. EndsAt bytes.now whole (spot_shown spot) (ending_shown e)) }
 {
     let Announced { kind, at, told_at } = spot;
     if !is_walked(spot) {

@@ -17,8 +17,6 @@ mod headers;
 mod laws;
 mod marks;
 mod options;
-#[cfg(test)]
-mod tests;
 
 pub use brief::Brief;
 pub use chain::{Ending, Header};

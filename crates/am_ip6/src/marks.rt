@@ -49,7 +49,8 @@ pub fn find_mark(bytes: &[u8], whole: bool, place: Place) -> Found
     ensures each { SeenInEach place bytes.now whole (seen_shown result) }
 
     // And nothing else is found in the packet.
-    ensures only { (seen : Seen) → IsSeen bytes.now whole place seen → seen ≡ seen_shown result }
+    ensures only { (seen : Seen) → IsSeen bytes.now whole place seen
+        → seen ≡ seen_shown result }
 {
     walk_law();
     seen_law();

@@ -13,7 +13,8 @@ use am_opts::{Mark, Opt, Options, decode_mark};
 // being an option list.
 pub(crate) fn first_mark(area: &[u8]) -> Result<Option<(Mark, usize)>, usize>
     requires { length area.now ≤ 2046 }
-    ensures cases { IfOk result (λ f. MatchOption f (HasNoMark area.now) (λ m. HasMark area.now m.0 m.1)) }
+    ensures cases { IfOk result (λ f. MatchOption f (HasNoMark area.now)
+        (λ m. HasMark area.now m.0 m.1)) }
     ensures within { IfOk result (λ f. IfSome f (λ m. m.1 ≤ length area.now)) }
     ensures stops { IfErr result (λ place. StopsAt area.now place) }
     ensures short { IfErr result (λ place. place ≤ length area.now) }

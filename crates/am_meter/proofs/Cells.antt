@@ -1,5 +1,5 @@
 -- The cell of a flow and a block over one marked record more, and tables of cells in which records are counted.
-use Rattle.std.proofs.Common.{arith, refl, sym, ap, subst, ◌∙◌, ◌≡◌, ◌≢◌, ◌⊎◌, inl, inr, ℕ, ◌+◌, ◌<◌, Bool, true, false, ◌&&◌, IsTrue, List, [], ◌∷◌, ◌++◌, length, cond, filter, count_by, sum_by, slice_index_or, append_assoc, append-nil, add-zero}
+use Rattle.std.proofs.Common.{arith, refl, sym, ap, subst, ◌∙◌, ◌≡◌, ◌≢◌, ◌⊎◌, inl, inr, ℕ, ◌+◌, ◌<◌, Bool, true, false, ◌&&◌, IsTrue, List, [], ◌∷◌, ◌++◌, length, cond, filter, count_by, sum_by, slice_index_or, append_assoc, add-zero}
 use Rattle.std.proofs.lemmas.Bool.{cases_eq}
 use Rattle.std.proofs.lemmas.List.{get_or_default, length-append}
 use Rattle.std.proofs.lemmas.List.Sums.{sum_by-append}
@@ -84,14 +84,6 @@ pub cell-other :
 cell-other t id shift block ms m counts =
     cell-more t id shift block ms m false false counts (ap (λ x. x && m.mark.delay) counts)
     ∙ together-none (cell_of t id shift block ms)
-
--- no record, none counted
-pub counts-nothing : (d : DomainValue) (node : ℕ) (t : CellTable) → CountsMore d node t t []
-counts-nothing d node t = record {
-  table = λ is. is;
-  metered = λ ms a. subst (λ xs. AreMetered d node xs t) (sym (append-nil ms)) a;
-  total = omega arith;
-}
 
 -- records were counted, and then others
 pub counts-both :

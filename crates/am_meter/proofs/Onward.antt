@@ -1,5 +1,5 @@
 -- A stream that goes on: what each record of its capture makes of it, and what the end and an error say.
-use Rattle.std.proofs.Common.{arith, refl, sym, ap, subst, ◌∙◌, ◌≡◌, ◌≢◌, ℕ, ◌+◌, ◌≤◌, ◌^◌, Bool, false, List, [], ◌∷◌, ◌++◌, length, Option, Some, None, inl, inr}
+use Rattle.std.proofs.Common.{arith, refl, sym, ap, subst, ◌∙◌, ◌≡◌, ◌≢◌, ℕ, ◌+◌, ◌≤◌, ◌^◌, Bool, false, List, [], ◌∷◌, ◌++◌, length, Option, Some, None, inr}
 use Rattle.std.specs.Prelude.{Ok, Result, IfOk, IfSome}
 use Rattle.std.proofs.lemmas.List.{length-append, append-nil}
 use Rattle.am_base.specs.Shelves.{Told}
@@ -8,8 +8,8 @@ use Rattle.am_ip6.specs.Marks.{Seen}
 use Rattle.am_ip6.specs.Marks.Seen.{Marks, NoMark, CutOff}
 use Rattle.am_ip6.specs.declared.marks.Place.{Place}
 use Rattle.am_pcap.specs.Readings.{Reading}
-use Rattle.am_pcap.specs.CaptureFiles.{ReadsOn, BeginsWith, IsWholeCapture, WhyStopped, IsRefusedBehind, IsLong, WhyNotOpened}
-use Rattle.am_pcap.specs.Answers.{GivesRecord, GivesError, EndsReading, StopsReading}
+use Rattle.am_pcap.specs.CaptureFiles.{ReadsOn, BeginsWith, IsWholeCapture, WhyStopped, IsRefusedBehind, IsLong}
+use Rattle.am_pcap.specs.Answers.{GivesRecord, EndsReading, StopsReading}
 use Rattle.am_pcap.specs.Shown.{packet_shown}
 use Rattle.am_pcap.specs.declared.head.Head.{Head}
 use Rattle.am_pcap.specs.declared.record.Record.{Record}
@@ -18,7 +18,7 @@ use Rattle.am_pcap.specs.declared.capture.FileError.TheVariants.{Missing, ReadFa
 use Rattle.am_meter.specs.Marks.{IsSeenIn, AreMarked, JudgesMarks, RefusesMarks}
 use Rattle.am_meter.specs.Marks.MarksRefusal.{Long, BadCapture, HeadersCut as CutAt}
 use Rattle.am_meter.specs.Streaming.{Streaming, stream_of}
-use Rattle.am_meter.specs.Streams.{StreamsOn, GivesMarked, EndsStream, StopsStream, WhyStreamStopped, MayStop, WhyNotStreamed}
+use Rattle.am_meter.specs.Streams.{StreamsOn, GivesMarked, EndsStream, StopsStream, WhyStreamStopped}
 use Rattle.am_meter.specs.Looks.{LooksAt, PassesOver, ShowsAs, marked_of}
 use Rattle.am_meter.specs.declared.stream.Marked.{Marked}
 use Rattle.am_meter.specs.declared.stream.Looked.{Looked}
@@ -111,9 +111,6 @@ over-one place now new first mid after name ms x on =
     subst (λ ns. StreamsOn first after name place (stream_of place new) ns) (append-nil ms)
     (goes-on place now new first mid after name ms [] looked.Unmarked on.head NoMark x on marked (omega arith))
 
-pub passes-none : (place : Place) (old : Reading) (before : Option Told) → old.over ≡ false → PassesOver place old old before before
-passes-none place old before on = record { goes_on = on; passes = omega arith; streams = λ first name ms s. s }
-
 pub passes-one :
     (place : Place) (old now new : Reading) (before mid after : Option Told)
     → PassesOver place old now before mid
@@ -203,13 +200,6 @@ stops place old now before mid after e p stop first name own ms on =
     let w = stop first name s.head s.packets s.reads in
     (subst (λ q. WhyStreamStopped q first after name ms (File e)) on.looks (why-file place now first mid after name ms e s w.0), w.1)
 
-pub may-stop : (s : Streaming) (c : Reading) (before after : Option Told) (e : FileError) → GivesError c before after e → MayStop s (File e)
-may-stop s c before after Missing g = g
-may-stop s c before after ReadFault g = tt
-may-stop s c before after TooLong g = tt
-may-stop s c before after (Bad e) g = tt
-may-stop s c before after Memory g = g
-
 -- the headers of a record are cut
 pub cuts :
     (place : Place) (old now new : Reading) (before mid after : Option Told) (number : ℕ)
@@ -235,38 +225,6 @@ cuts place old now new before mid after number p x first name own ms on =
           reads.begins),
       reads.kept,
     )
-
-pub may-cut :
-    (place : Place) (old now new : Reading) (before mid after : Option Told) (number : ℕ)
-    → PassesOver place old now before mid
-    → LooksAt place now new mid after (looked.Cut number)
-    → MayStop (stream_of place old) (HeadersCut number)
-may-cut place old now new before mid after number p x =
-    (omega (arith, x.shows.1, x.next, p.passes), omega (arith, x.shows.1, x.few))
-
--- a capture that was opened is streamed
-pub opens :
-    (place : Place) (before now : Option Told) (name : List ℕ) (c : Reading)
-    → ((h : Head) × (c.decoded.summary.head ≡ Some h) × ReadsOn before now name c h [])
-    → StreamsOn before now name place (stream_of place c) []
-opens place before now name c o = record {
-  goes_on = refl;
-  looks = refl;
-  head = o.0;
-  packets = [];
-  reads = o.2;
-  marked = refl;
-  few = omega arith;
-  kept = o.2.kept;
-}
-
-pub not-opened : (place : Place) (before after : Option Told) (name : List ℕ) (e : FileError) → WhyNotOpened before after name e → WhyNotStreamed place before after name (File e)
-not-opened place before after name Missing w = w
-not-opened place before after name ReadFault w = w
-not-opened place before after name TooLong w = w
-not-opened place before after name (Bad e) w =
-    (w, file-more before name _ (λ bytes. RefusesMarks place bytes (BadCapture e) []) (λ bytes r. inl (r, refl)) w.file)
-not-opened place before after name Memory w = w
 
 -- what is said of an answer with a record
 pub gave-record :

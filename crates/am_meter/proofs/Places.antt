@@ -1,30 +1,16 @@
 -- Where a marked record counts, and its offset there.
-use Rattle.std.proofs.Common.{arith, sym, ap, subst, ◌≡◌, ℕ, ◌+◌, ◌-◌, ◌*◌, ◌/◌, ◌%◌, ◌^◌, ◌<◌, ◌≤◌, Bool, true, ◌==◌, IsTrue, [], length, slice_index_or, nat_le, nat_lt, Option, Some, None, eq-eqb, eqb-true, leb-true, ltb-true}
-use Rattle.std.proofs.lemmas.Bool.{and_parts, and_from}
+use Rattle.std.proofs.Common.{arith, sym, ap, subst, ◌≡◌, ℕ, ◌+◌, ◌-◌, ◌*◌, ◌/◌, ◌%◌, ◌^◌, ◌<◌, ◌≤◌, Bool, true, ◌==◌, IsTrue, [], length, slice_index_or, nat_le, nat_lt, Option, Some, None, eqb-true, leb-true, ltb-true}
+use Rattle.std.proofs.lemmas.Bool.{and_parts}
 use Rattle.am_clock.specs.Times.{Times, half, parity, in_window, belongs_to}
 use Rattle.am_domain.specs.Values.{FlowValue, no_node}
-use Rattle.am_domain.specs.Domains.{DomainValue, Reports, IsLawful}
-use Rattle.am_domain.specs.Lookups.{IsFirstWith, NoneHas, HasId}
+use Rattle.am_domain.specs.Domains.{DomainValue, IsLawful}
+use Rattle.am_domain.specs.Lookups.{NoneHas, HasId}
 use Rattle.am_meter.specs.declared.stream.Marked.{Marked}
 use Rattle.am_meter.specs.Metering.{node_shift}
 use Rattle.am_meter.specs.Lookups.{CountsAt}
 
 abbrev no_flow : FlowValue
 no_flow = record { name = []; id = 0; source = record { bytes = []; length = 0 }; destination = record { bytes = []; length = 0 } }
-
--- a record of the number of a flow counts in a reported block that it belongs to
-pub counts-at :
-    (d : DomainValue) (node : ℕ) (m : Marked) (flow block : ℕ)
-    → IsFirstWith (HasId m.mark.flow) d.flows flow
-    → IsTrue (belongs_to d.times m.reading m.mark.loss (node_shift d node) block)
-    → Reports d block
-    → CountsAt d node m flow block
-counts-at d node m flow block first belongs reported = record {
-  flow_there = first.within;
-  reported = reported;
-  counts = λ f. and_from (m.mark.flow == (slice_index_or d.flows flow f).id) (belongs_to d.times m.reading m.mark.loss (node_shift d node) block)
-      (eq-eqb m.mark.flow (slice_index_or d.flows flow f).id (sym (first.here f))) belongs;
-}
 
 -- what counts in a cell has the flow's number
 pub at-id :
@@ -52,14 +38,6 @@ pub no-flow :
     → CountsAt d node m flow block
     → ⊥
 no-flow d node m flow block none at = none flow no_flow at.flow_there (sym (at-id d node m flow block no_flow at))
-
--- the one block that a record belongs to, and the one flow of its number, are those that it counts in
-pub one-block :
-    (d : DomainValue) (node : ℕ) (m : Marked) (flow block : ℕ) (o : Option ℕ)
-    → ((n : ℕ) → IsTrue (belongs_to d.times m.reading m.mark.loss (node_shift d node) n) → o ≡ Some n)
-    → CountsAt d node m flow block
-    → o ≡ Some block
-one-block d node m flow block o found at = found block (at-belongs d node m flow block at)
 
 pub one-flow :
     (d : DomainValue) (node : ℕ) (m : Marked) (flow block : ℕ) (o : Option ℕ)

@@ -1,11 +1,8 @@
 //! The marked records of a batch, counted in the cells of a node.
 ghost use Rattle.std.specs.Prelude.{◌≡◌, ◌+◌, ◌<◌, ◌≤◌, ◌^◌, ◌∷◌, [], ℕ, List, IsTrue, IfOk, IfErr, OnOk, OnErr, IfSome, IfNone, Some, length};
-ghost use Rattle.std.specs.Bool.{OnTrue, OnFalse};
 ghost use Rattle.am_cells.specs.CellTables.{total_of};
 ghost use Rattle.am_cells.specs.declared.cell.TheConstants.{MAX_COUNT, OFFSET_END};
-ghost use Rattle.am_domain.specs.Domains.{DomainValue};
-ghost use Rattle.am_ip6.specs.Seen.{seen_shown};
-ghost use Rattle.am_meter.specs.Batches.{HaveMarks, CutsFirst, RecordShows};
+ghost use Rattle.am_meter.specs.Batches.{HaveMarks, CutsFirst};
 ghost use Rattle.am_meter.specs.BatchSlots.{lent_shown};
 ghost use Rattle.am_meter.specs.Counted.{CellsOf, WhyNotCounted, CountsRecord};
 ghost use Rattle.am_meter.specs.Lookups.{CountsAt};

@@ -26,6 +26,3 @@ pub use gate::{Gate, NoGate};
 pub use laws::{batch_marks_are_one, marks_are_one};
 pub use metering::meter_file;
 pub use stream::{Marked, MeterError, Stream};
-
-#[cfg(test)]
-mod tests;

@@ -40,7 +40,8 @@ pub fn meter_file<S: Shelf, G: Gate>(
     _gate: &G,
 ) -> Result<Cells, MeterError>
     requires { node < length domain.now.nodes }
-    ensures metered { IfOk result (λ cells. AreCellsOf domain.now node (S.told shelf.old) cells) }
+    ensures metered { IfOk result
+        (λ cells. AreCellsOf domain.now node (S.told shelf.old) cells) }
     ensures table { IfOk result (λ cells. HasDomainShape domain.now cells) }
     ensures at_end { IfOk result (λ _. IsAtEnd (S.told shelf.new)) }
     ensures refused { IfErr result (λ e. WhyNoCells domain.now node (S.told shelf.old) e) }

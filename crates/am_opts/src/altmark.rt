@@ -108,7 +108,8 @@ pub fn encode_mark(mark: Mark) -> [u8; 6]
 /// is not 0x12, or where the length is not 4. The reserved bits may have any value, and so may what follows.
 pub fn decode_mark(bytes: &[u8]) -> Option<(Mark, usize)>
     // Whatever prefix spells a mark, the mark is found.
-    ensures found { (n : ℕ) (mark : Marking) → n ≤ length bytes.now → Spells (take n bytes.now) mark
+    ensures found { (n : ℕ) (mark : Marking) → n ≤ length bytes.now
+        → Spells (take n bytes.now) mark
         → result ≡ Some (mark, 6) }
     ensures only { IfSome result (λ r. (r.1 ≡ 6) × Spells (take 6 bytes.now) r.0) }
 {
@@ -129,70 +130,5 @@ fn mark_in(word: u32) -> Mark
         flow: word / 4096,
         loss: word / 2048 % 2 == 1,
         delay: word / 1024 % 2 == 1,
-    }
-}
-
-#[cfg(test)]
-mod tests {
-    use super::*;
-
-    fn parts(bytes: &[u8]) -> Option<(u32, bool, bool, usize)> {
-        let (mark, length) = decode_mark(bytes)?;
-        Some((mark.flow(), mark.loss(), mark.delay(), length))
-    }
-
-    #[test]
-    fn a_spelling_gives_its_mark(rt: HostRuntime) {
-        let wanted = Some((0x12345, true, false, 6));
-        assert_eq!(rt; parts(b"\x12\x04\x12\x34\x58\x00"), wanted);
-        // the reserved bits set
-        assert_eq!(rt; parts(b"\x12\x04\x12\x34\x5b\xff"), wanted);
-        // more bytes behind it
-        assert_eq!(rt; parts(b"\x12\x04\x12\x34\x58\x00\x01\x00"), wanted);
-        // every bit of the mark set
-        assert_eq!(rt;
-            parts(b"\x12\x04\xff\xff\xfc\x00"),
-            Some((0xfffff, true, true, 6))
-        );
-        // the delay bit alone
-        assert_eq!(rt;
-            parts(b"\x12\x04\x00\x00\x04\x00"),
-            Some((0, false, true, 6))
-        );
-    }
-
-    #[test]
-    fn other_bytes_spell_no_mark(rt: HostRuntime) {
-        // a length of 5
-        assert_eq!(rt; parts(b"\x12\x05\x12\x34\x58\x00\x00"), None);
-        // five bytes
-        assert_eq!(rt; parts(b"\x12\x04\x12\x34\x58"), None);
-        // a type that differs in its highest bits
-        assert_eq!(rt; parts(b"\xd2\x04\x12\x34\x58\x00"), None);
-        // a mark behind a Pad1
-        assert_eq!(rt; parts(b"\x00\x12\x04\x12\x34\x58\x00"), None);
-        assert_eq!(rt; parts(b""), None);
-    }
-
-    #[test]
-    fn a_mark_is_written_with_reserved_bits_zero(rt: HostRuntime) {
-        let every_bit = Mark::new(0xfffff, true, true).expect(&rt, "a mark");
-        assert_eq!(rt;
-            encode_mark(every_bit).as_slice(),
-            b"\x12\x04\xff\xff\xfc\x00".as_slice()
-        );
-        let mark = Mark::new(0x12345, true, false).expect(&rt, "a mark");
-        let bytes = encode_mark(mark);
-        assert_eq!(rt; bytes.as_slice(), b"\x12\x04\x12\x34\x58\x00".as_slice());
-        assert_eq!(rt; decode_mark(&bytes), Some((mark, 6)));
-    }
-
-    #[test]
-    fn a_flow_has_twenty_bits(rt: HostRuntime) {
-        assert!(rt; Mark::new(1_048_576, false, false).is_none());
-        let mark = Mark::new(1_048_575, false, true).expect(&rt, "a mark");
-        assert_eq!(rt; mark.flow(), 1_048_575);
-        assert!(rt; !mark.loss());
-        assert!(rt; mark.delay());
     }
 }

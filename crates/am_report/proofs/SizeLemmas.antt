@@ -1,20 +1,19 @@
 -- A written report is short enough to be read.
-use Rattle.std.proofs.Common.{◌≡◌, ◌∙◌, ℕ, ◌+◌, ◌-◌, ◌*◌, ◌/◌, ◌%◌, ◌^◌, ◌<◌, ◌≤◌, Bool, true, false, List, [], ◌∷◌, ◌++◌, length, refl, sym, ap, subst, arith, zero, suc, codes, decimal}
+use Rattle.std.proofs.Common.{ℕ, ◌+◌, ◌-◌, ◌*◌, ◌/◌, ◌%◌, ◌^◌, ◌<◌, ◌≤◌, true, false, List, [], ◌∷◌, ◌++◌, length, sym, subst, arith, zero, suc, decimal}
 use Rattle.std.specs.Prelude.{map, flat_map, if◌then◌else◌, ◌==◌}
 use Rattle.std.specs.List.{range_with_len}
 use Rattle.std.proofs.lemmas.Fmt.{length-decimal-le_wide}
 use Rattle.std.proofs.lemmas.List.{length-append}
 use Rattle.std.proofs.lemmas.List.Elements.{All-get_or}
 use Rattle.csv.specs.Machine.{line_feed}
-use Rattle.csv.specs.Writing.{default_writer, escaped, quoted, is_blank, field_text, fields_text, row_text, by_style, needs_quotes}
-use Rattle.am_cells.specs.declared.cell.Cell.{Cell}
+use Rattle.csv.specs.Writing.{default_writer, escaped, quoted, is_blank, field_text, fields_text, by_style, needs_quotes}
 use Rattle.am_cells.specs.Counts.{IsLawfulCell, no_packets}
-use Rattle.am_cells.specs.CellTables.{CellTable, IsCellTable, HasShape, cell_in}
+use Rattle.am_cells.specs.CellTables.{CellTable, IsCellTable, HasShape}
 use Rattle.am_domain.specs.Domains.{DomainValue, IsLawful}
 use Rattle.am_domain.specs.Values.{no_node}
-use Rattle.am_report.specs.Rows.{RowValue, column_names, row_fields, fields_line, head_line, report_line, report_rows, report_text, node_name, flow_name, no_flow}
+use Rattle.am_report.specs.Rows.{RowValue, row_fields, fields_line, head_line, report_line, report_rows, report_text, no_flow}
 use Rattle.am_report.specs.declared.read.TheConstants.{MAX_REPORT}
-use Rattle.am_report.proofs.ReadBack.{row_of, rows_of, all_rows, Written, block-fits, many-cells, wanted-here, all-read}
+use Rattle.am_report.proofs.ReadBack.{row_of, all_rows, Written, block-fits, many-cells, wanted-here, all-read}
 
 -- a byte of a field takes two at most
 escaped-short : (field : List ℕ) → length (escaped default_writer field) ≤ 2 * length field

@@ -16,10 +16,6 @@ use Rattle.am_report.specs.declared.error.ReportError.TheVariants.{BadHeader, Ba
 use Rattle.am_report.proofs.FillLemmas.{one-name, filled-more}
 use Rattle.am_report.proofs.ReadLemmas.{one-row, next-wanted, only-wanted}
 
-pub refuse-fields : (d : DomainValue) (f : Filling) (before : List RowValue) (fields : List (List ℕ)) → IsFilled d f before
-    → ((r : RowValue) → SpellsRow fields r → ⊥) → RefusesRow d before fields (BadRow f.row)
-refuse-fields d f before fields filled none = (filled.number, λ r row. none r row.spells)
-
 pub refuse-count : (d : DomainValue) (f : Filling) (before : List RowValue) (fields : List (List ℕ)) (s : RowValue)
     → IsFilled d f before → SpellsRow fields s → MAX_COUNT - total_of f.cells < s.cell.count
     → RefusesRow d before fields (BadRow f.row)

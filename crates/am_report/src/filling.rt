@@ -49,7 +49,8 @@ impl Filling {
     pub(crate) fn take(&mut self, domain: &Domain, fields: &ByteRecord) -> Result<(), ReportError>
         requires { IsFilling domain.now self.old }
         ensures sound { OnOk result (IsFilling domain.now self.new) }
-        ensures taken { OnOk result ((before : List RowValue) → IsFilled domain.now self.old before
+        ensures taken { OnOk result ((before : List RowValue)
+            → IsFilled domain.now self.old before
             → (r : RowValue) × IsTaken domain.now before (fields_of fields.now) r
             × IsFilled domain.now self.new (before ++ r ∷ [])) }
         ensures refused { IfErr result (λ e. (before : List RowValue)

@@ -20,7 +20,8 @@ pub fn report_law()
         → IsReportOf d bytes a → IsReportOf d bytes b → a ≡ b }
     ensures refusal { (d : DomainValue) (bytes : List ℕ) (a b : ReportError) → IsLawful d
         → IsReportRefusal d bytes a → IsReportRefusal d bytes b → a ≡ b }
-    ensures either { (d : DomainValue) (bytes : List ℕ) (r : Report) (e : ReportError) → IsLawful d
+    ensures either { (d : DomainValue) (bytes : List ℕ) (r : Report) (e : ReportError)
+        → IsLawful d
         → IsReportOf d bytes r → IsReportRefusal d bytes e → ⊥ }
     ensures read_back { (d : DomainValue) (node : ℕ) (cells : CellTable) → IsLawful d
         → node < length d.nodes → IsCellTable cells

@@ -16,8 +16,6 @@ mod message;
 mod read;
 mod row;
 mod rows;
-#[cfg(test)]
-mod tests;
 mod write;
 
 pub use error::ReportError;

@@ -47,7 +47,8 @@ pub fn write_report<O: Sink>(
 /// Writes the first row of a report, the names of the columns.
 pub fn write_head<O: Sink>(alloc: Global, out: &mut O) -> Result<(), OutError>
     ensures all { OnOk result (O.written out.new ≡ append_known (O.written out.old) head_line) }
-    ensures front { OnErr result (AppendsFront (O.written out.old) (O.written out.new) head_line) }
+    ensures front { OnErr result
+        (AppendsFront (O.written out.old) (O.written out.new) head_line) }
     ensures failed { IfErr result (λ e. FaultRose e (O.faults out.old) (O.faults out.new)) }
     ensures memory { IfErr result (λ e. MemoryKeeps e (O.written out.old) (O.written out.new)) }
     ensures faults_stay { O.faults out.old ≤ O.faults out.new }
@@ -87,7 +88,8 @@ pub fn write_row<O: Sink>(
 // Appends bytes to a sink.
 fn append<O: Sink>(bytes: &[u8], out: &mut O) -> Result<(), OutError>
     ensures all { OnOk result (O.written out.new ≡ append_known (O.written out.old) bytes.now) }
-    ensures front { OnErr result (AppendsFront (O.written out.old) (O.written out.new) bytes.now) }
+    ensures front { OnErr result
+        (AppendsFront (O.written out.old) (O.written out.new) bytes.now) }
     ensures failed { IfErr result (λ e. FaultRose e (O.faults out.old) (O.faults out.new)) }
     ensures memory { IfErr result (λ e. MemoryKeeps e (O.written out.old) (O.written out.new)) }
     ensures faults_stay { O.faults out.old ≤ O.faults out.new }

@@ -20,6 +20,3 @@ mod word;
 pub use pass::Pass;
 pub use tally::{MAX_BUDGET, MAX_OFFSET, MAX_SLOTS, Tally};
 pub use word::Word;
-
-#[cfg(test)]
-mod tests;

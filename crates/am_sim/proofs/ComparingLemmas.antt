@@ -1,5 +1,5 @@
 -- The rows of the first clusters, and what all of them lose together.
-use Rattle.std.proofs.Common.{◌≡◌, ◌∙◌, ℕ, zero, suc, ◌+◌, ◌*◌, ◌^◌, ◌<◌, ◌≤◌, List, [], ◌∷◌, ◌++◌, length, get_or, take, drop, map, refl, sym, ap, arith, slice_index}
+use Rattle.std.proofs.Common.{◌≡◌, ◌∙◌, ℕ, zero, suc, ◌+◌, ◌*◌, ◌^◌, ◌<◌, ◌≤◌, List, [], ◌∷◌, ◌++◌, length, get_or, take, drop, map, sym, ap, arith, slice_index}
 use Rattle.std.specs.Prelude.{All, sum_by}
 use Rattle.std.specs.List.{range_with_len}
 use Rattle.std.proofs.lemmas.List.{append-nil, drop_all, map-append, take_all}
@@ -58,18 +58,6 @@ pub written-back : {X : Type 0} (len : ℕ) (new old : List X) → length new �
 written-back len new old same all =
     let none : drop (length new) old ≡ [] = drop_all (length new) old (omega (arith, same)) in
     ap (λ xs. take len (new ++ xs)) none ∙ ap (take len) (append-nil new) ∙ take_all len new (omega (arith, same, all))
-
--- no cluster has no losses
-pub sums-none : (d : DomainValue) (m : Measured) (events : List Event) (c : ClustersValue) (sums : List ℕ)
-    → HasEach d sums → ((k : ℕ) → slice_index sums k ≡ 0) → ComparesFirst d m events c 0 sums []
-sums-none d m events c sums each none = record {
-  sums_are = record {
-    each = each;
-    sum = λ flow block low reports. none (loss_number d flow block);
-    small = λ k. omega (arith, none k);
-  };
-  rows_are = refl;
-}
 
 -- rows over equal losses are equal
 row-same : (scope : Scope) (f g : LossRow → ℕ) (rows : List LossRow) → All (λ r. f r ≡ g r) rows → row_of scope f rows ≡ row_of scope g rows

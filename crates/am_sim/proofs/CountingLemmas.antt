@@ -5,7 +5,7 @@ use Rattle.std.proofs.Math.Seq.{set-append_seam, get_or-append_seam}
 use Rattle.std.proofs.lemmas.List.{get_or_append_left, get_or-map, append-nil, length-append, length-map, length-replicate, map-append}
 use Rattle.am_cells.specs.CellTables.{CellTable}
 use Rattle.am_meter.specs.Metering.{HasDomainShape}
-use Rattle.am_control.specs.Controls.{ControlValue, HasPlanShape, Accepts, IsMeasuredBy, TellsMissing, report_at, RefusesReport}
+use Rattle.am_control.specs.Controls.{ControlValue, HasPlanShape, Accepts, IsMeasuredBy, TellsMissing}
 use Rattle.am_control.specs.Plans.{LossPlan, IsPlanOf}
 use Rattle.am_control.specs.Rows.{Measured, no_table}
 use Rattle.am_control.specs.declared.error.ControlError.{ControlError}
@@ -82,20 +82,6 @@ counts-one d events i plan old new ms table h so metered accepts = record {
       ∙ more-reports (length d.nodes) i so.cells table so.each h;
 }
 
--- the next node has no report
-pub none-before :
-    (d : DomainValue) (events : List Event) (i : ℕ) (plan : LossPlan) (control : ControlValue)
-    → i < length d.nodes → CountsFirst d events i plan control → report_at control i ≡ None
-none-before d events i plan control h so =
-    let some = map (λ (t : CellTable). Some t) so.cells in
-    let rest : List (Option CellTable) = replicate (length d.nodes - (i + 1)) None in
-    let left : length d.nodes - i ≡ suc (length d.nodes - (i + 1)) = omega (arith, h) in
-    let place : i ≡ length some = sym so.each ∙ sym (length-map so.cells (λ t. Some t)) in
-    ap (λ rs. get_or rs i None) so.reports
-    ∙ ap (λ k. get_or (some ++ replicate k None) i None) left
-    ∙ ap (λ k. get_or (some ++ None ∷ rest) k None) place
-    ∙ get_or-append_seam some None rest None
-
 -- the reports of all nodes are there
 reports-of-all :
     (d : DomainValue) (events : List Event) (plan : LossPlan) (control : ControlValue)
@@ -164,11 +150,3 @@ plan-shape d plan now t planned is shape =
       first_is = shape.first_is ∙ sym planned.first;
       end_is = shape.end_is ∙ sym planned.end;
     })
-
--- so no report is refused but for want of memory
-pub never-twice :
-    (d : DomainValue) (events : List Event) (i : ℕ) (plan : LossPlan) (control : ControlValue) (e : ControlError)
-    → i < length d.nodes → CountsFirst d events i plan control → RefusesReport control i e → (e ≡ Memory → ⊥) → ⊥
-never-twice d events i plan control (ReportTwice node) h so refused other = absurd (cc (none-before d events i plan control h so, refused.1))
-never-twice d events i plan control (MissingReport node) h so refused other = refused
-never-twice d events i plan control Memory h so refused other = other refl

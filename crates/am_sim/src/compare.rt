@@ -72,7 +72,8 @@ fn row_of(
     requires plan { IsPlanOf domain.now closed.now.plan }
     requires cluster { cluster < count_of closed.now.plan.clusters }
     requires each { HasEach domain.now losses.now }
-    ensures { IfOk result (λ row. row ≡ row_over domain.now closed.now (Cluster cluster) losses.now) }
+    ensures { IfOk result
+        (λ row. row ≡ row_over domain.now closed.now (Cluster cluster) losses.now) }
 {
     let mut wide = no_loss(alloc, domain)?;
     add_each(wide.as_mut_slice(), losses);

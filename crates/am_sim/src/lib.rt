@@ -12,8 +12,6 @@ mod compare;
 mod measure;
 mod row;
 mod simulating;
-#[cfg(test)]
-mod tests;
 mod write;
 
 pub use row::SimRow;

@@ -412,19 +412,6 @@ seen-more d events k key trip next old new e links those below packet known afte
       ];
     }
 
--- or it is the first that breaks one
-pub broken-here : (d : DomainValue) (events : List Event) (k key : ℕ) (trip : Trip) (trips : Trips) (e : Event) (rule : Rule)
-    → k < length events → key ≡ event_packet (get_or events k e) → trip ≡ trip_at trips key
-    → TellsRule d trip (get_or events k e) (Some rule) → IsSeen d events k trips
-    → TellsBreach d events (Some (record { event = k; rule = rule }))
-broken-here d events k key trip trips e rule below packet known broken seen =
-    let at = trip-known d events k key trip trips e below seen packet known in (
-      below,
-      subst (λ x. TellsRule d (trip_before d events k) x (Some rule)) (get_or_default events k e (Lost 0) below)
-          (subst (λ t. TellsRule d t (get_or events k e) (Some rule)) at broken),
-      seen.keep,
-    )
-
 -- only single events break the rules that do not come last
 breaks-single : (d : DomainValue) (events : List Event) (k : ℕ) (rule : Rule) → is_last rule ≡ false
     → breaks d events k rule ≡ breaks_rule d (trip_before d events k) (event_at events k) rule

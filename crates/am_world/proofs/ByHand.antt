@@ -1,5 +1,5 @@
 -- A world written by hand, whose dropped packets a reader counts: what the definitions give for it, computed.
-use Rattle.std.proofs.Common.{◌≡◌, ℕ, true, false, List, [], ◌∷◌, refl}
+use Rattle.std.proofs.Common.{◌≡◌, true, false, List, [], ◌∷◌, refl}
 use Rattle.std.specs.Prelude.{◌==◌}
 use Rattle.am_clock.specs.Times.{Times, times_of}
 use Rattle.am_domain.specs.declared.link.Edge.{Edge}

@@ -221,12 +221,6 @@ split-bit false b n = refl
 split-bit true true n = omega arith
 split-bit true false n = omega arith
 
--- the same between another fact
-split-sent : (pass a b : Bool) (n : ℕ)
-    → cond (pass && a) n 0 ≡ cond (pass && (a && is_bit b true)) n 0 + cond (pass && (a && is_bit b false)) n 0
-split-sent false a b n = refl
-split-sent true a b n = split-bit a b n
-
 -- a packet that is sent in the block is sent with the delay bit or without
 sent-split : (d : DomainValue) (flow block : ℕ) (pass : Bool) (n : ℕ) (es : List Event) → IsJourney d es
     → cond (pass && list_any (sends d.times flow block) es) n 0

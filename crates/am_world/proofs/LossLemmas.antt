@@ -2,7 +2,7 @@
 use Rattle.std.proofs.Common.{◌≡◌, ◌∙◌, ℕ, ◌+◌, ◌-◌, ◌*◌, ◌/◌, ◌%◌, ◌<◌, ◌≤◌, Bool, true, false, cond, eqb, ◌&&◌, List, length, ◌++◌, get_or, take, drop, Option, Some, None, refl, sym, ap, arith, inl, inr}
 use Rattle.std.proofs.Common.{◌≢◌, set}
 use Rattle.std.specs.Prelude.{slice_index, count_by}
-use Rattle.std.proofs.lemmas.Bool.{false≢true, cases_Bool, cases_eq, and_parts, and_from, and_right, eqb-true, eq-eqb, false_from_ne_true}
+use Rattle.std.proofs.lemmas.Bool.{false≢true, cases_Bool, cases_eq, and_parts, and_from, and_right, eqb-true, eq-eqb}
 use Rattle.std.proofs.lemmas.List.{get_or-set_same, get_or-set_other, take_all, take_at}
 use Rattle.std.proofs.lemmas.List.Sums.{sum_by_more}
 use Rattle.std.proofs.lemmas.Nat.{mul-add-lt, div-mul-add, mod-mul-add}
@@ -96,23 +96,6 @@ counts-drop d f b old below reported each = record {
         omega (arith, get_or-set_other old (loss_number d f b) k (get_or old (loss_number d f b) 0 + 1) 0 other)
   ];
 }
-
--- a drop of no flow of the domain, or of a block that is not reported, changes nothing
-pub counts-other : (d : DomainValue) (drop : Option (ℕ × ℕ)) (old : List ℕ)
-    → ((flow block : ℕ) → flow < length d.flows → Reports d block → is_drop_of flow block drop ≡ false)
-    → CountsDrop d drop old old
-counts-other d drop old none = record {
-  each = λ flow block below reported. rw (none flow block below reported) (omega arith);
-  few = λ k. omega arith;
-}
-
-pub not-of : (d : DomainValue) (f b : ℕ) → ((f < length d.flows) → Reports d b → ⊥)
-    → (flow block : ℕ) → flow < length d.flows → Reports d block → is_drop_of flow block (Some (f, b)) ≡ false
-not-of d f b out flow block below reported = false_from_ne_true (eqb f flow && eqb b block) (λ h.
-    let both = and_parts (eqb f flow) (eqb b block) h in
-    let at : f ≡ flow = eqb-true f flow both.0 in
-    let in' : b ≡ block = eqb-true b block both.1 in
-    out (omega (arith, at, below)) (omega (arith, in', reported.0), omega (arith, in', reported.1)))
 
 -- one event more
 pub losses-more : (d : DomainValue) (here : ℕ → Bool) (events : List Event) (i : ℕ) (e : Event) (trips : Trips) (old new : List ℕ)

@@ -1,9 +1,9 @@
 -- For each flow and node, the least block that is new there.
-use Rattle.std.proofs.Common.{◌≡◌, ◌∙◌, ℕ, ◌+◌, ◌*◌, ◌<◌, ◌≤◌, max, Bool, List, [], ◌∷◌, ◌++◌, length, get_or, set, replicate, sym, ap, subst, arith, inl, inr}
+use Rattle.std.proofs.Common.{◌≡◌, ◌∙◌, ℕ, ◌+◌, ◌*◌, ◌<◌, ◌≤◌, max, Bool, List, [], ◌∷◌, ◌++◌, length, get_or, set, sym, ap, subst, arith, inl, inr}
 use Rattle.std.specs.Prelude.{All, slice_index}
 use Rattle.std.proofs.lemmas.Bool.{cases_eq}
-use Rattle.std.proofs.lemmas.List.{get_or-set_same, get_or-set_other, length-set, get_or-replicate, length-replicate}
-use Rattle.std.proofs.lemmas.List.Elements.{All-nil, All-append, All-push, All-head, All-take, All-drop}
+use Rattle.std.proofs.lemmas.List.{get_or-set_same, get_or-set_other, length-set}
+use Rattle.std.proofs.lemmas.List.Elements.{All-append, All-push, All-head, All-take, All-drop}
 use Rattle.std.proofs.Math.Seq.{take-append_seam, drop-append_seam}
 use Rattle.std.proofs.Math.Nat.{le-max_left, le-max_right, max-le}
 use Rattle.am_domain.specs.Domains.{DomainValue}
@@ -22,16 +22,6 @@ pub place-there : (d : DomainValue) (events : List Event) (newest : List ℕ) (f
     → f < length d.flows → v < 128 → place_at f v < length newest
 place-there d events newest f v known flow node =
     omega (arith, known.each, flow, node)
-
--- at first each block is new
-pub all-new : (d : DomainValue) → AreLeastNew d [] (replicate (length d.flows * 128) 0)
-all-new d = record {
-  each = length-replicate {A = ℕ} (length d.flows * 128) 0;
-  least = λ flow node block below within. (
-    (λ _. All-nil (IsBefore d.times flow node block)),
-    (λ _. let is = get_or-replicate {A = ℕ} (length d.flows * 128) (place_at flow node) 0 0 (omega (arith, below, within)) in omega (arith, is)),
-  );
-}
 
 all-left : {X : Type 0} (P : X → Type 0) (xs ys : List X) → All P (xs ++ ys) → All P xs
 all-left P xs ys all = subst (All P) (take-append_seam xs ys) (All-take P (length xs) (xs ++ ys) all)

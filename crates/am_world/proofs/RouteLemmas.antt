@@ -70,10 +70,6 @@ entry-enters d i below =
     not-true (has_links_in d.links (get_or (entries d) i 0))
     (passing-passes (λ node. not (has_links_in d.links node)) (length d.nodes) i below)
 
--- where there is an entry there is a node
-pub entry-node : (d : DomainValue) → 0 < length (entries d) → 0 < length d.nodes
-entry-node d some = let below = entry-within d 0 some in omega (arith, below)
-
 -- a link that begins at a node is one, and begins there
 pub from-within : (links : List Edge) (node i : ℕ) → i < length (links_from links node)
     → get_or (links_from links node) i 0 < length links

@@ -1,11 +1,11 @@
 -- The bytes of a node's capture, as they are written: the file header, and then event by event.
-use Rattle.std.proofs.Common.{◌≡◌, ◌∙◌, ℕ, ◌+◌, ◌<◌, ◌≤◌, ◌%◌, eqb, Bool, true, false, cond, zero, suc, List, [], ◌∷◌, ◌++◌, length, get_or, take, Option, Some, None, refl, sym, ap, subst, arith, inl, inr, length-append, append_assoc, w32}
+use Rattle.std.proofs.Common.{◌≡◌, ◌∙◌, ℕ, ◌+◌, ◌<◌, ◌≤◌, ◌%◌, eqb, Bool, true, false, zero, suc, List, [], ◌∷◌, ◌++◌, length, get_or, take, Option, refl, sym, ap, subst, arith, inl, inr, length-append, append_assoc, w32}
 use Rattle.std.specs.Prelude.{All, flat_map, nat_lt}
 use Rattle.std.proofs.lemmas.Bool.{cases_Bool}
 use Rattle.std.proofs.lemmas.Bool.Decides.{nat_tests}
 use Rattle.std.specs.Int.{to_be_bytes}
 use Rattle.std.proofs.lemmas.List.{append-nil, take_all, get_or_default, get_or-append-add}
-use Rattle.std.proofs.lemmas.List.Elements.{All-nil, All-append}
+use Rattle.std.proofs.lemmas.List.Elements.{All-append}
 use Rattle.std.proofs.lemmas.Grind.{flat_map-append}
 use Rattle.std.proofs.lemmas.Nat.{be_bytes_4}
 use Rattle.std.proofs.Math.Seq.{take-suc}
@@ -19,9 +19,8 @@ use Rattle.am_pcap.specs.Heads.{half_word}
 use Rattle.am_pcap.specs.Spelling.{record_bytes}
 use Rattle.am_world.specs.declared.capture.Sent.{Sent}
 use Rattle.am_world.specs.declared.event.Event.{Event}
-use Rattle.am_world.specs.Events.{event_reading}
 use Rattle.am_world.specs.Passes.{block_at}
-use Rattle.am_world.specs.Captures.{flow_at, mark_at, header_number, packet_bytes, sending_of, option_bytes, is_captured, records_at, captured, captured_bytes, node_records, node_head, node_capture, IsSized}
+use Rattle.am_world.specs.Captures.{flow_at, mark_at, header_number, packet_bytes, sending_of, option_bytes, captured, captured_bytes, node_records, node_head, node_capture, IsSized}
 use Rattle.am_world.proofs.LossLemmas.{block_is}
 
 -- what was appended to a list of bytes are bytes
@@ -153,9 +152,6 @@ pub record IsWritten (d : DomainValue) (events : List Event) (node i : ℕ) (byt
       (flat_map (λ e. captured d node (sending_of d events e) e) (take i events))
   pub sized : All IsSized (flat_map (λ e. captured d node (sending_of d events e) e) (take i events))
 
-pub written-none : (d : DomainValue) (events : List Event) (node : ℕ) → IsWritten d events node 0 node_head.raw
-written-none d events node = record { bytes_are = sym (append-nil node_head.raw); sized = All-nil IsSized }
-
 -- one event more
 pub written-more : (d : DomainValue) (events : List Event) (node i : ℕ) (none : Event) (sent : Option Sent) (old new : List ℕ)
     → i < length events → sent ≡ sending_of d events (get_or events i none)
@@ -198,23 +194,3 @@ written-all d events node i bytes all w =
       bytes_are = w.bytes_are ∙ ap (λ es. node_head.raw ++ flat_map (λ p. record_bytes false p) (flat_map cap es)) whole;
       sized = subst (λ es. All IsSized (flat_map cap es)) whole w.sized;
     }
-
--- an event that has no record
-pub captured-none : (d : DomainValue) (node : ℕ) (sent : Option Sent) (e : Event) (at : Option ℕ)
-    → at ≡ cond (is_captured d node e) (Some (event_reading e)) None → at ≡ None → captured d node sent e ≡ []
-captured-none d node sent e at is none = by (is_captured d node e) (sym is ∙ none)
-  where
-    by : (here : Bool) → cond here (Some (event_reading e)) None ≡ None → cond here (records_at d (event_reading e) sent) [] ≡ []
-    by true h = absurd (cc h)
-    by false h = refl
-
--- an event that has one, if its packet was sent
-pub captured-some : (d : DomainValue) (node reading : ℕ) (sent : Option Sent) (e : Event) (at : Option ℕ)
-    → at ≡ cond (is_captured d node e) (Some (event_reading e)) None → at ≡ Some reading
-    → captured d node sent e ≡ records_at d reading sent
-captured-some d node reading sent e at is some = by (is_captured d node e) (sym is ∙ some)
-  where
-    by : (here : Bool) → cond here (Some (event_reading e)) None ≡ Some reading
-        → cond here (records_at d (event_reading e) sent) [] ≡ records_at d reading sent
-    by true h = ap (λ r. records_at d r sent) (cc h)
-    by false h = absurd (cc h)

@@ -36,9 +36,6 @@ use am_pcap::{Form, LinkKind, captures_are_spelled, file_head, record_head};
 use std::alloc::{AllocError, Global};
 use std::collections::HashMap;
 
-#[cfg(test)]
-mod tests;
-
 // The form of a node's capture.
 const FORM: Form = Form {
     big: false,
@@ -79,7 +76,8 @@ pub fn capture_of(
     // It is a capture, and records what passes the node in its span.
     ensures recorded { IfOk result (λ capture.
         IsRecordOf domain.now world.now node capture.items) }
-    ensures length { IfOk result (λ capture. length capture.items ≤ 24 + 64 * length world.now) }
+    ensures length { IfOk result
+        (λ capture. length capture.items ≤ 24 + 64 * length world.now) }
 {
     captures_are_spelled();
     // No two flows have the same number, so a mark tells its flow.
@@ -104,7 +102,8 @@ fn written(
     requires flows { HaveFlows domain.now sendings.now }
     ensures bytes { IfOk result (λ capture.
         capture.items ≡ node_capture domain.now events.now node) }
-    ensures sized { IfOk result (λ capture. All IsSized (node_records domain.now events.now node)) }
+    ensures sized { IfOk result
+        (λ capture. All IsSized (node_records domain.now events.now node)) }
 {
     let mut capture = Vec::new(alloc);
     put_head(&mut capture)?;
@@ -256,7 +255,8 @@ fn note(sendings: &mut HashMap<u64, Sent>, domain: &Domain, event: &Event) -> Re
         ≡ (if event_packet event.now == packet
         then sending_after domain.now (sending_at sendings.old packet) (event.now ∷ [])
         else sending_at sendings.old packet)) }
-    ensures flows { OnOk result (HaveFlows domain.now sendings.old → HaveFlows domain.now sendings.new) }
+    ensures flows { OnOk result (HaveFlows domain.now sendings.old
+        → HaveFlows domain.now sendings.new) }
 {
     let Event::Send {
         packet,

@@ -22,9 +22,6 @@ use am_domain::{Domain, Edge};
 use std::alloc::{AllocError, Global};
 use std::collections::HashMap;
 
-#[cfg(test)]
-mod tests;
-
 // The rules that single events break, in the order in which an event is looked at.
 const IN_ORDER: [Rule; 8] = [
     Rule::BadNumber,
@@ -47,7 +44,8 @@ pub fn check_world(
 ) -> Result<Option<Breach>, AllocError>
     ensures first { IfOk result (λ found.
         IfSome found (λ breach. IsFirstBreach domain.now world.now breach)) }
-    ensures none { IfOk result (λ found. (found ≡ None) ↔ IsValidAndTimed domain.now world.now) }
+    ensures none { IfOk result (λ found. (found ≡ None)
+        ↔ IsValidAndTimed domain.now world.now) }
 {
     let events = world.events();
     let broken = first_broken(alloc, domain, events)?;

@@ -24,9 +24,6 @@ use crate::world::World;
 use am_domain::Domain;
 use std::alloc::{AllocError, Global};
 
-#[cfg(test)]
-mod tests;
-
 // The most hops that a packet makes: where the network has a cycle, it ends there, too.
 const MAX_HOPS: u32 = 16;
 

@@ -38,13 +38,15 @@ pub fn world_law()
     // So where the captures record such a world, the loss of a cluster is the number of packets dropped in it.
     ensures drops { (d : DomainValue) (m : Measured) (events : List Event)
         (captures : ℕ → List Marked) (flow block : ℕ)
-        → IsLawful d → IsPlanOf d m.plan → IsCountedFrom d captures m → AreRecorded d events captures
+        → IsLawful d → IsPlanOf d m.plan → IsCountedFrom d captures m
+        → AreRecorded d events captures
         → flow < length d.flows → Reports d block → TellsDrops d m events flow block }
 
     // And its delay is how long the packets took over the links of the cluster, but for the skew at each packet.
     ensures delays { (d : DomainValue) (m : Measured) (events : List Event)
         (captures : ℕ → List Marked) (flow block : ℕ)
-        → IsLawful d → IsPlanOf d m.plan → IsCountedFrom d captures m → AreRecorded d events captures
+        → IsLawful d → IsPlanOf d m.plan → IsCountedFrom d captures m
+        → AreRecorded d events captures
         → flow < length d.flows → Reports d block → TellsDelays d m events flow block }
 {
     loss_law();

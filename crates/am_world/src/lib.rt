@@ -16,8 +16,6 @@ mod laws;
 mod loss;
 mod routes;
 mod rule;
-#[cfg(test)]
-mod tests;
 mod trip;
 mod world;
 
