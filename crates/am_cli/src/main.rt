@@ -4,9 +4,6 @@
 //! [`run`] of am_run does all that the program does, over a shelf of files and two sinks. `main` hands it the real ones.
 #![tactic(auto)]
 
-#[cfg(test)]
-mod tests;
-
 use am_base::{DiskShelf, StdSink};
 pub use am_run::run::run;
 use std::alloc::Global;
