@@ -58,6 +58,35 @@ refuses() {
     expect "$name" 2 '' 'altmark: usage' "$@"
 }
 
+# write_capture NAME [SECOND CAPTURED MARK]..: a capture of packets from 2001:db8:1::1 to 2001:db8:2::1. Of each stand here its
+# second, with a fraction of up to six digits or without, how many of its bytes were captured, and its mark, or - where it has
+# none. It has 48 bytes, and 40 without a mark.
+write_capture() {
+    python3 - "$@" <<'END'
+import struct, sys
+name, words = sys.argv[1], sys.argv[2:]
+ends = "20010db8000100000000000000000001 20010db8000200000000000000000001"
+with open(name, "wb") as out:
+    out.write(struct.pack("<IHHIIII", 0xA1B2C3D4, 2, 4, 0, 0, 262144, 101))
+    for time, captured, mark in zip(*[iter(words)] * 3):
+        packet = bytes.fromhex(f"6000000000003b40 {ends}" if mark == "-" else f"6000000000080040 {ends} 3b001204 {mark}")
+        second, _, fraction = time.partition(".")
+        out.write(struct.pack("<IIII", int(second), int(fraction.ljust(6, "0")), int(captured), len(packet)))
+        out.write(packet[: int(captured)])
+END
+}
+
+# altered FROM TO LENGTH [PLACE BYTE]..: TO is the first bytes of FROM, so many, and at each place stands this byte.
+altered() {
+    python3 - "$@" <<'END'
+import sys
+bytes_ = bytearray(open(sys.argv[1], "rb").read()[: int(sys.argv[3])])
+for place, byte in zip(sys.argv[4::2], sys.argv[5::2]):
+    bytes_[int(place)] = int(byte, 16)
+open(sys.argv[2], "wb").write(bytes_)
+END
+}
+
 head_line=block,in,out,lost
 two=("$here/two/u.pcap" "$here/two/v.pcap")
 table=$head_line$'\n0,2,2,0\n1,3,2,1\n2,1,1,0'
@@ -101,6 +130,28 @@ expect 'the longest block' 0 $head_line$'\n0,3,3,0' '' link 1099511627776 0 7456
 head -c 24 u.pcap >"$scratch/head.pcap"
 expect 'captures without records' 0 "$head_line" '' link 10000000000 0 74565 "$scratch/head.pcap" "$scratch/head.pcap"
 expect 'nothing left' 0 $head_line$'\n0,2,0,2\n1,3,0,3\n2,1,0,1' '' link 10000000000 0 74565 u.pcap "$scratch/head.pcap"
+expect 'nothing entered' 0 $head_line$'\n0,0,2,-2\n1,0,2,-2\n2,0,1,-1' '' link 10000000000 0 74565 "$scratch/head.pcap" v.pcap
+
+# A few packets in blocks of ten seconds: the shift, what each point sees, and the rows of the table.
+# counts NAME SHIFT UP DOWN ROWS
+counts() {
+    local up down
+    read -ra up <<<"$3"
+    read -ra down <<<"$4"
+    write_capture "$scratch/up.pcap" "${up[@]}"
+    write_capture "$scratch/down.pcap" "${down[@]}"
+    expect "$1" 0 "$head_line"$'\n'"$5" '' link 10000000000 "$2" 74565 "$scratch/up.pcap" "$scratch/down.pcap"
+}
+clear=12345000 loss=12345800 other=12346000 late=12000000000
+counts 'a shift of 12 seconds' $late "1 48 $clear" "16 48 $clear" 0,1,1,0
+counts 'order turned at the edge of a block' 0 "9.9 48 $clear 10 48 $loss" "8.2 48 $loss 8.3 48 $clear" $'0,1,1,0\n1,1,1,0'
+counts 'a packet seen three seconds late' 0 "9.9 48 $clear" "12.9 48 $clear" 0,1,1,0
+counts 'a packet seen twice' 0 "1 48 $clear" "1 48 $clear 1 48 $clear" 0,1,2,-1
+counts 'packets of another flow' 0 "1 48 $other 2 48 $clear" "1 48 $other 11 48 $other" 0,1,0,1
+counts 'colour 1 below its first window' 0 "4.999999 48 $loss" "5 48 $loss" 1,0,1,-1
+counts 'the first point is at shift 0' $late "6.999999 48 $clear" "6.999999 48 $clear" 0,1,0,1
+counts 'the end of a window and the start of the next' 0 "14.999999 48 $clear 15 48 $clear 10.2 48 $clear" '' $'0,2,0,2\n2,1,0,1'
+counts 'the start of a window at a shift' $late '' "6.999999 48 $clear 7 48 $clear" 0,0,1,-1
 
 # What `show` prints of each record. It asks nothing of them; `link` asks that no headers are cut.
 cd -- "$top" || exit 1
@@ -110,6 +161,9 @@ cd -- "$here/chains" || exit 1
 expect_file 'show chains' 0 chains.txt '' show chains.pcap
 expect_file 'show v.pcap' 0 ../two/v.txt '' show ../two/v.pcap
 expect 'show a capture without records' 0 '' '' show "$scratch/head.pcap"
+altered ../two/u.pcap "$scratch/raw.pcap" 88 20 e5 40 40
+expect 'show version 4 as raw IPv6' 0 '1 1000000000 48 48 ip6 bad@0 - -' '' show "$scratch/raw.pcap"
+expect 'version 4 as raw IPv6' 0 "$head_line" '' link 10000000000 0 74565 "$scratch/raw.pcap" "$scratch/head.pcap"
 expect 'chains as UP' 3 '' 'altmark: chains.pcap: headers of record 17 are cut' link 10000000000 0 74565 chains.pcap ../two/v.pcap
 
 # The records of two/ in every form: each form of UP beside each of DOWN gives the one table, and each is shown.
@@ -151,6 +205,31 @@ expect_file 'mark, several kinds of traffic' 0 marked.pcap '' mark net.toml plai
 expect_file 'strip, several kinds of traffic' 0 plain.pcap '' strip net.toml marked.pcap
 cd -- "$here/two" || exit 1
 
+# The first packet of a block has the delay bit where no packet of a later block came before it.
+write_capture "$scratch/plain.pcap" 1 40 - 2 40 - 11 40 - 3 40 - 12 40 - 21 40 -
+write_capture "$scratch/marked.pcap" 1 48 12345400 2 48 12345000 11 48 12345c00 3 48 12345000 12 48 12345800 21 48 12345400
+expect_file 'mark, a packet that comes late' 0 "$scratch/marked.pcap" '' mark two.toml "$scratch/plain.pcap"
+expect_file 'strip, a packet that comes late' 0 "$scratch/plain.pcap" '' strip two.toml "$scratch/marked.pcap"
+# A packet to another network, one of version 4, and a mark of another number stay as they are.
+for row in 'mark plain 69 03' 'mark plain 40 40' 'strip marked 69 03' 'strip marked 86 44'; do
+    read -r command name place byte <<<"$row"
+    altered "$scratch/$name.pcap" "$scratch/other.pcap" "$([[ $name == plain ]] && echo 80 || echo 88)" "$place" "$byte"
+    expect_file "$command, byte $place of a $name packet is $byte" 0 "$scratch/other.pcap" '' $command two.toml "$scratch/other.pcap"
+done
+# What gets no mark is refused after the record before it: a header that authenticates follows, or one that isn't there, or the
+# packet has no room.
+write_capture "$scratch/plain.pcap" 1 40 - 11 40 -
+head -c 88 "$scratch/marked.pcap" >"$scratch/printed"
+while IFS=: read -r cause changes; do
+    read -ra split <<<"$changes"
+    altered "$scratch/plain.pcap" "$scratch/other.pcap" 136 "${split[@]}"
+    expect_file "mark, $cause" 3 "$scratch/printed" "altmark: $scratch/other.pcap: record 2: $cause" mark two.toml "$scratch/other.pcap"
+done <<'END'
+protected:102 33
+malformed at 40:102 00
+record full:92 ff 93 ff 94 ff 95 ff
+END
+
 # The reports of both points, and the loss table of the domain. All names of captures are those of the folder that the program
 # runs in. Nothing is printed where a capture is missing, is refused or can't be read.
 expect_file 'meter a' 0 a.csv '' meter two.toml a
@@ -182,6 +261,7 @@ mv v.pcap u.pcap
 expect 'audit, a refused capture before one that is missing' 3 '' 'altmark: u.pcap: headers of record 2 are cut' audit two.toml
 rm u.pcap && mkdir u.pcap
 expect 'meter, a folder as the capture' 5 '' 'altmark: u.pcap: read fault' meter two.toml a
+expect 'meter, an unknown node before any capture' 3 '' 'altmark: unknown node' meter two.toml z
 expect 'audit, a folder as a capture' 5 '' 'altmark: u.pcap: read fault' audit two.toml
 # The captures exchanged: in block 1 more left than entered, and each packet seems to arrive before it was sent.
 rmdir u.pcap && cp "$here/two/v.pcap" u.pcap && cp "$here/two/u.pcap" v.pcap
@@ -220,20 +300,6 @@ for file in "$here"/bad/*.pcap; do
     done
     rm -- "$name"
 done
-# Captures of a few packets of 48 bytes: for each its second, how many of its bytes were captured, and its mark.
-# write_capture NAME [SECOND CAPTURED MARK]..
-write_capture() {
-    python3 - "$@" <<'END'
-import struct, sys
-name, words = sys.argv[1], sys.argv[2:]
-packet = bytes.fromhex("6000000000080040 20010db8000100000000000000000001 20010db8000200000000000000000001 3b001204")
-with open(name, "wb") as out:
-    out.write(struct.pack("<IHHIIII", 0xA1B2C3D4, 2, 4, 0, 0, 262144, 101))
-    for second, captured, mark in zip(*[iter(words)] * 3):
-        out.write(struct.pack("<IIII", int(second), 0, int(captured), 48))
-        out.write((packet + bytes.fromhex(mark))[: int(captured)])
-END
-}
 columns=version,node,flow,block,count,sum,dcount,dsum
 write_capture u.pcap 11 48 12345800 4 48 12345000
 expect 'meter, colour 1 before colour 0' 0 $columns$'\n1,a,voice,0,1,4000000000,0,0\n1,a,voice,1,1,6000000000,0,0\n1,a,voice,2,0,0,0,0' '' meter two.toml a
@@ -302,6 +368,7 @@ cd -- "$here/two" || exit 1
 expect 'loss, a alone' 3 '' 'altmark: no report of node b' loss two.toml a.csv
 expect 'loss, b alone' 3 '' 'altmark: no report of node a' loss two.toml b.csv
 expect 'loss, a twice' 3 '' 'altmark: a.csv: second report of node a' loss two.toml a.csv a.csv
+expect 'loss, b twice' 3 '' 'altmark: b.csv: second report of node b' loss two.toml b.csv b.csv
 expect 'loss, a twice, with b between' 3 '' 'altmark: ./a.csv: second report of node a' loss two.toml a.csv b.csv ./a.csv
 expect 'loss, a twice before a report that is missing' 3 '' 'altmark: a.csv: second report of node a' loss two.toml a.csv a.csv no.csv
 expect 'loss, a missing report before a twice' 4 '' 'altmark: no.csv: missing' loss two.toml a.csv no.csv a.csv
@@ -460,6 +527,7 @@ cd -- "$scratch/sim" || exit 1
 sim_line=cluster,true,reported,cells,equal
 expect_file 'check plan/tight.toml' 0 "$here/plan/tight.check" '' check tight.toml
 expect 'sim, no packets' 0 $sim_line$'\n0,0,0,3,3\nnetwork,0,0,3,3' '' sim two.toml 7 0
+expect 'sim, no packets from the greatest number' 0 $sim_line$'\n0,0,0,3,3\nnetwork,0,0,3,3' '' sim two.toml 18446744073709551615 0
 for name in twelve tight; do
     python3 "$here/make/world.py" $name.toml 7 20000 --sim >$name.sim
     tally "bytes of plan/$name.sim" "$(cmp -s $name.sim "$here/plan/$name.sim" && echo yes)"
@@ -534,10 +602,11 @@ long=$(printf 'a%.0s' {1..255})
 refuses 'an empty name of UP' link 10000000000 0 74565 '' v.pcap
 refuses 'an empty name of DOWN' link 10000000000 0 74565 u.pcap ''
 refuses 'a name of 256 bytes' link 10000000000 0 74565 "a$long" v.pcap
+refuses 'a name of 256 bytes, which are 128 letters' link 10000000000 0 74565 "$(printf 'ü%.0s' {1..128})" v.pcap
 refuses 'a name with a line feed' link 10000000000 0 74565 $'u\n.pcap' v.pcap
 refuses 'a name with U+001F' link 10000000000 0 74565 u.pcap $'v\x1f.pcap'
 refuses 'a name with U+007F' link 10000000000 0 74565 u.pcap $'v\x7f.pcap'
-for words in show 'show u.pcap v.pcap' 'show 1 u.pcap' 'Show u.pcap' 'shows u.pcap' 'u.pcap show' 'link u.pcap'; do
+for words in link 'Link 10000000000 0 74565 u.pcap v.pcap' show 'show u.pcap v.pcap' 'show 1 u.pcap' 'Show u.pcap' 'shows u.pcap' 'u.pcap show' 'link u.pcap'; do
     read -ra split <<<"$words"
     refuses "'$words'" "${split[@]}"
 done
@@ -602,7 +671,14 @@ expect 'show, a name of 255 bytes' 4 '' "altmark: $long: missing" show "$long"
 expect 'show, a name that begins with a dash' 4 '' 'altmark: --help: missing' show --help
 expect 'a word that is no text' 2 '' '' link 10000000000 0 74565 $'u\xff.pcap' v.pcap
 expect 'a name of 255 bytes' 4 '' "altmark: $long: missing" link 10000000000 0 74565 "$long" v.pcap
+for name in zürich.pcap 路 $'\xc2\x80'; do
+    expect "a name of any letters, '$name'" 4 '' "altmark: $name: missing" link 10000000000 0 74565 "$name" v.pcap
+done
 expect 'the largest numbers' 0 "$head_line" '' link 1099511627776 1099511627776 1048575 u.pcap v.pcap
+expect 'the smallest numbers' 0 "$head_line" '' link 2 0 0 u.pcap v.pcap
+cd -- "$scratch" || exit 1
+cp head.pcap ' ' && cp head.pcap '~'
+expect 'names that are a space and a tilde' 0 "$head_line" '' link 10 0 1 ' ' '~'
 
 # Files that are refused, in each place. DOWN is judged only where UP was accepted.
 cd -- "$here/bad" || exit 1
@@ -613,6 +689,9 @@ for file in *.pcap; do
     expect "bad/$file as DOWN" 3 '' "$line" link 10000000000 0 74565 "$good" "$file"
     expect "bad/$file before a DOWN that is missing" 3 '' "$line" link 10000000000 0 74565 "$file" missing.pcap
 done
+
+expect 'both are bad' 3 '' 'altmark: record-header-cut.pcap: file ends in record 3' link 10000000000 0 74565 record-header-cut.pcap head-cut.pcap
+expect 'headers are cut before a bad DOWN' 3 '' 'altmark: headers-cut-before-file-ends.pcap: headers of record 2 are cut' link 10000000000 0 74565 headers-cut-before-file-ends.pcap head-cut.pcap
 
 # `show` over the same files. Beside each stands all that it writes: the lines of records, then, where it refuses, why.
 for file in *.pcap; do
@@ -631,6 +710,20 @@ expect_file 'check two.toml' 0 ../two/two.check '' check ../two/two.toml
 expect_file 'check twelve.toml' 0 ../twelve/twelve.check '' check ../twelve/twelve.toml
 expect 'clusters two.toml' 0 'cluster 0 links 0 starts a ends b' '' clusters ../two/two.toml
 expect_file 'clusters twelve.toml' 0 ../twelve/twelve.clusters '' clusters ../twelve/twelve.toml
+# lettered NODES LINK..: the domain file of a network whose nodes are letters and whose links are two letters each.
+lettered() {
+    local nodes=$1 link
+    shift
+    echo 'timing = { block_ns = 10, skew_ns = 0, delay_min_ns = 0, delay_max_ns = 0 }'
+    echo 'marking = { place = "hop-by-hop" }'
+    echo 'flow = [{ name = "f", id = 1, source = "::/0", destination = "::/0" }]'
+    for ((i = 0; i < ${#nodes}; i++)); do printf '[[node]]\nname = "%s"\ncapture = "c"\nfrom_ns = 0\nuntil_ns = 40\n' "${nodes:i:1}"; done
+    for link in "$@"; do printf '[[link]]\nfrom = "%s"\nto = "%s"\n' "${link:0:1}" "${link:1:1}"; done
+}
+lettered abcdefghij ab ac bd be ce df di eg eh ej >"$scratch/letters.toml"
+expect 'clusters of ten nodes' 0 $'cluster 0 links 0 1 starts a ends b c\ncluster 1 links 2 3 4 starts b c ends d e\ncluster 2 links 5 6 starts d ends f i\ncluster 3 links 7 8 9 starts e ends g h j' '' clusters "$scratch/letters.toml"
+lettered abcxy ax bx by cy >"$scratch/letters.toml"
+expect 'clusters of three entries and two ends' 0 'cluster 0 links 0 1 2 3 starts a b c ends x y' '' clusters "$scratch/letters.toml"
 python3 "$here/make/domains.py" "$scratch/domains"
 tally 'the rows of domains/' "$([[ $? == 0 ]] && echo yes)"
 for folder in "$here/domains" "$scratch/domains"; do
@@ -758,6 +851,17 @@ expect_file 'show, a file of more than 16 MiB' 0 many.txt '' show many.pcap
 expect_file 'show, records of many lengths' 0 lengths.txt '' show lengths.pcap
 expect 'show, zeros' 3 '' 'altmark: zeros.pcap: bad magic' show zeros.pcap
 expect 'zeros' 3 '' 'altmark: zeros.pcap: bad magic' link 10000000000 0 74565 zeros.pcap missing.pcap
+write_capture record-of-4-gb.pcap 1 48 12345400 2 4278190128 12345000
+expect 'a record of 4278190128 bytes as UP' 3 '' 'altmark: record-of-4-gb.pcap: record 2 is too long: 4278190128' link 10000000000 0 74565 record-of-4-gb.pcap missing.pcap
+expect 'a record of 4278190128 bytes as DOWN' 3 '' 'altmark: record-of-4-gb.pcap: record 2 is too long: 4278190128' link 10000000000 0 74565 lengths.pcap record-of-4-gb.pcap
+expect 'show, a record of 4278190128 bytes' 3 '1 1000000000 48 48 ip6 0:8,=59 74565/0/1 -' 'altmark: record-of-4-gb.pcap: record 2 is too long: 4278190128' show record-of-4-gb.pcap
+# `show` writes the lines that it holds once they are 65,536 bytes or more. Those of 1,448 records are 65,501, and with one more
+# they are 65,547.
+for record in 1448 1449 1450; do
+    head -c $((23 + 64 * record)) many.pcap >ends.pcap
+    head -n $((record - 1)) many.txt >ends.txt
+    expect_file "show, a file that ends in record $record" 3 ends.txt "altmark: ends.pcap: file ends in record $record" show ends.pcap
+done
 
 # Domain files that are made here, since they aren't small. One has as many nodes, links and flows as there may be, and as
 # many cells. The others have more, or one item that isn't like the rest.
@@ -858,6 +962,8 @@ if [[ -c /dev/full && -w /dev/full ]]; then
     to_full 'check to a full device, as many of each as there may be' 6 'altmark: write fault' check most.toml
     to_full 'check to a full device, refused' 3 'altmark: domain: too many cells: 65536' check cells.toml
     to_full 'check to a full device, missing' 4 'altmark: missing.toml: missing' check missing.toml
+    to_full 'clusters to a full device' 6 'altmark: write fault' clusters "$here/two/two.toml"
+    to_full 'clusters to a full device, refused' 3 'altmark: domain: too many cells: 65536' clusters cells.toml
     to_full 'sim to a full device' 6 'altmark: write fault' sim "$here/two/two.toml" 7 0
     to_full 'sim to a full device, refused' 3 'altmark: domain: too many cells: 65536' sim cells.toml 7 0
     to_full 'sim to a full device, missing' 4 'altmark: missing.toml: missing' sim missing.toml 7 0
@@ -887,6 +993,9 @@ if [[ -c /dev/full && -w /dev/full ]]; then
     "$altmark" link 10000000000 0 74565 missing.pcap missing.pcap </dev/null >stdout 2>/dev/full
     got=$?
     if [[ $got == 4 && ! -s stdout ]]; then tally 'a missing file, with a full standard error' yes; else tally 'a missing file, with a full standard error' no "status $got"; fi
+    "$altmark" link 10000000000 0 74565 "${two[0]}" "$here/two" </dev/null >stdout 2>/dev/full
+    got=$?
+    if [[ $got == 5 && ! -s stdout ]]; then tally 'a folder as DOWN, with a full standard error' yes; else tally 'a folder as DOWN, with a full standard error' no "status $got"; fi
     "$altmark" link 10000000000 0 74565 "${two[@]}" </dev/null >/dev/full 2>/dev/full
     got=$?
     if [[ $got == 6 ]]; then tally 'both streams full' yes; else tally 'both streams full' no "status $got"; fi

@@ -173,10 +173,18 @@ CHAINS = [
     ("ip6 cut cut cut", ip6(NONE)[:1], 40),
 ]
 
-# Two more, with times of their own: a fraction of more than a million, and the latest time.
+# A segment routing header of 24 bytes (RFC 8754), with one segment that is still to come.
+SEGMENTS = bytes.fromhex("3c020401 00000000 20010db8000300000000000000000001")
+
+# Three more, with times of their own: a fraction of more than a million, the latest time, and a microsecond after a second, of
+# a packet between whose two Destination headers stands that header, and of which the first 80 bytes of 1,280 were captured.
 LAST = [
     ("47 48000001000 40 40 ip6 =59 - -", record(47, 1000001, ip6(NONE))),
     ("48 4294971589967295000 40 40 ip6 =59 - -", record(4294967295, 4294967295, ip6(NONE))),
+    (
+        "49 7000001000 80 1280 ip6 60:8,43:24,60:8,=17 - 1048575/1/0",
+        record(7, 1, ip6(DESTINATION, header(ROUTING, PAD6) + SEGMENTS + header(UDP, mark("fffff803")), payload=1240), original=1280),
+    ),
 ]
 
 
