@@ -1,6 +1,6 @@
 -- The reports that `meter` prints of all nodes say the cells over the captures, so their loss table is that of the captures.
-use Rattle.std.proofs.Common.{arith, refl, sym, ap, subst, ◌∙◌, ◌≡◌, ◌≢◌, ◌⊎◌, ℕ, zero, suc, ◌+◌, ◌<◌, ◌≤◌, All, AllPairs, Contains, List, [], ◌∷◌, ◌++◌, length, get_or, map, Some, None, inl, inr, zero-add}
-use Rattle.std.specs.Prelude.{unwrap_or, if◌then◌else◌}
+use Rattle.std.proofs.Common.{arith, refl, sym, ap, subst, ◌∙◌, ◌≡◌, ◌≢◌, ◌⊎◌, ℕ, zero, suc, ◌<◌, ◌≤◌, All, AllPairs, Contains, List, [], ◌∷◌, ◌++◌, length, get_or, map, Some, None, inl, inr, zero-add}
+use Rattle.std.specs.Prelude.{unwrap_or, ◌==◌, if◌then◌else◌}
 use Rattle.std.specs.List.{range_with_len}
 use Rattle.std.proofs.lemmas.Bool.Decides.{eqb_tells}
 use Rattle.std.proofs.lemmas.List.{ext_get_or, get_or-map, length-map}
@@ -14,12 +14,12 @@ use Rattle.am_report.specs.Rows.{report_text, no_flow}
 use Rattle.am_report.specs.declared.read.Report.{Report}
 use Rattle.am_report.specs.declared.read.TheConstants.{MAX_REPORT}
 use Rattle.am_run.specs.Agreeing.{AreNodeReports, AreTaken, LossIsAudit}
-use Rattle.am_run.specs.Gathering.{cells_of, cells_of_each, node_without}
-use Rattle.am_run.specs.NodeCells.{AreWholeCells}
+use Rattle.am_chain.specs.Gathering.{cells_of, cells_of_each, node_without}
+use Rattle.am_chain.specs.NodeCells.{AreWholeCells}
 use Rattle.am_run.specs.commands.Audit.{HaveCells, IsLossTable}
 use Rattle.am_run.specs.commands.Loss.{IsTableOfReports}
 use Rattle.am_run.specs.commands.Meter.{IsNodeReport}
-use Rattle.am_run.proofs.GatherLemmas.{one-more, none-without}
+use Rattle.am_run.proofs.GatherLemmas.{none-without}
 
 -- what is known of reports and of tables of cells
 pub record Known : Type 0 where
@@ -29,6 +29,8 @@ pub record Known : Type 0 where
       → HasShape cells (length d.flows) d.first d.end → IsReportOf d (report_text d node cells) (record { node = node; cells = cells })
   pub fits : (d : DomainValue) (node : ℕ) (cells : CellTable) → IsLawful d → node < length d.nodes → IsCellTable cells
       → HasShape cells (length d.flows) d.first d.end → length (report_text d node cells) ≤ MAX_REPORT
+  pub more : (taken : List Report) (r : Report) (node : ℕ) → cells_of taken r.node ≡ None
+      → cells_of (taken ++ r ∷ []) node ≡ (if r.node == node then Some r.cells else cells_of taken node)
 
 -- the marked records of a node's capture
 abbrev at_node : List (List Marked) → ℕ → List Marked
@@ -75,7 +77,7 @@ module _ (known : Known) (d : DomainValue) (taken : List (List Marked)) (lawful 
       let still : All (λ node. cells_of (before ++ r ∷ []) node ≡ None) order =
       λ k x h.
       let node = get_or order k x in
-      let more = one-more before r node lone in
+      let more = known.more before r node lone in
       elim (eqb_tells n node) [
         | inl same ↦ absurd (once zero (suc k) x (omega arith) (omega (arith, h)) same.1)
         | inr other ↦ more ∙ ap (λ b. if b then Some cells else cells_of before node) other.0 ∙ none (suc k) x (omega (arith, h))
@@ -83,7 +85,7 @@ module _ (known : Known) (d : DomainValue) (taken : List (List Marked)) (lawful 
       let rest = taking (before ++ r ∷ []) order texts (λ k x h. within (suc k) x (omega (arith, h)))
       (λ i j x low h. once (suc i) (suc j) x (omega (arith, low)) (omega (arith, h))) still are.1 in
       let here : cells_of (before ++ r ∷ []) n ≡ Some cells =
-      one-more before r n lone ∙ elim (eqb_tells n n) [
+      known.more before r n lone ∙ elim (eqb_tells n n) [
         | inl same ↦ ap (λ b. if b then Some cells else cells_of before n) same.0
         | inr other ↦ absurd (other.1 refl)
       ] in
@@ -91,7 +93,7 @@ module _ (known : Known) (d : DomainValue) (taken : List (List Marked)) (lawful 
         after = rest.after;
         all = (r, (short, read, lone), rest.all);
         kept = λ node t h. rest.kept node t (
-            let more = one-more before r node lone in
+            let more = known.more before r node lone in
             elim (eqb_tells n node) [
               | inl same ↦ absurd (cc (h, lone, same.1))
               | inr other ↦ more ∙ ap (λ b. if b then Some cells else cells_of before node) other.0 ∙ h

@@ -14,12 +14,12 @@ use Rattle.am_domain.specs.Domains.{DomainValue}
 use Rattle.am_domain.specs.Values.{no_node}
 use Rattle.am_meter.specs.MeteredFiles.{capture_of}
 use Rattle.am_meter.specs.declared.stream.Marked.{Marked}
-use Rattle.am_run.specs.Answers.{Answer}
-use Rattle.am_run.specs.Answers.Ending.{Done}
-use Rattle.am_run.specs.Chains.Chain.{Writes}
-use Rattle.am_run.specs.Chains.{Inputs, Output, Judged, Follows, Performs}
-use Rattle.am_run.specs.Inputs.{JudgesCapture}
-use Rattle.am_run.specs.NodeCells.{AreWholeCells}
+use Rattle.am_chain.specs.Answers.{Answer}
+use Rattle.am_chain.specs.Answers.Ending.{Done}
+use Rattle.am_chain.specs.Chains.Chain.{Writes}
+use Rattle.am_chain.specs.Chains.{Inputs, Output, Judged, Follows, Performs}
+use Rattle.am_chain.specs.Inputs.{JudgesCapture}
+use Rattle.am_chain.specs.NodeCells.{AreWholeCells}
 use Rattle.am_run.specs.Auditing.{TakesFirst, ReportsIgnoreWorkers, TablesIgnoreWorkers, with_workers}
 use Rattle.am_run.specs.commands.Audit.{HaveCells, IsLossTable, audit_from}
 

@@ -1,5 +1,5 @@
 -- What a chain that was performed says of its inputs.
-use Rattle.std.proofs.Common.{arith, refl, sym, ap, subst, ◌∙◌, ◌≡◌, ℕ, ◌≤◌, List, [], length, Option, Some, None, Ok, Err, inl, inr}
+use Rattle.std.proofs.Common.{arith, refl, sym, ap, subst, ◌∙◌, ◌≡◌, ℕ, ◌≤◌, List, [], ◌++◌, length, Option, Some, None, Ok, Err, inl, inr}
 use Rattle.std.specs.Prelude.{Result}
 use Rattle.std.specs.Io.KnownBytes.{append_known}
 use Rattle.std.proofs.Math.Seq.{take-length}
@@ -8,13 +8,15 @@ use Rattle.am_base.specs.Counts.{Rose}
 use Rattle.am_base.specs.Shelves.{File, Told, OnTold, IsAbsent, file_named}
 use Rattle.am_base.specs.Sinks.{AppendsFront}
 use Rattle.am_base.specs.Files.{OnFile, KeepsFiles}
+use Rattle.am_pcap.specs.Packets.{Packet}
+use Rattle.am_pcap.specs.declared.head.Head.{Head}
 use Rattle.am_pcap.specs.declared.refusal.CapError.{CapError}
-use Rattle.am_run.specs.Answers.{Reason, Ending, Answer}
-use Rattle.am_run.specs.Answers.Ending.{Done, Missing, Refused}
-use Rattle.am_run.specs.Answers.Answer.{Ended, NoCommand, ReadFault, WriteFault, NoMemory}
-use Rattle.am_run.specs.Chains.{Inputs, Output, Stream, Chain, Judged, EndsHere, Ends, Follows, StopsHere, Performs, IsTextOfFirst, IsTextBeforeBad, IsTextAtBad, IsTextBeforeRefused, IsTextOfSome, StreamRefuses, StreamEnds, StreamsSo, PrintsAll, PrintsFront, PrintsWhole, PrintsPieces}
-use Rattle.am_run.specs.Runs.{NamesFile}
-use Rattle.am_run.specs.Chains.Chain.{Reads, Refuses, Prints, Writes, Streams}
+use Rattle.am_chain.specs.Answers.{Reason, Ending, Answer}
+use Rattle.am_chain.specs.Answers.Ending.{Done, Missing, Refused}
+use Rattle.am_chain.specs.Answers.Answer.{Ended, NoCommand, ReadFault, WriteFault, NoMemory}
+use Rattle.am_chain.specs.Chains.{Inputs, Output, Stream, Chain, Judged, EndsHere, Ends, Follows, StopsHere, Performs, IsTextOfFirst, IsTextBeforeBad, IsTextAtBad, IsTextBeforeRefused, IsTextOfSome, StreamRefuses, StreamEnds, StreamsSo, PrintsAll, PrintsFront, PrintsWhole, PrintsPieces}
+use Rattle.am_chain.specs.Answers.{NamesFile}
+use Rattle.am_chain.specs.Chains.Chain.{Reads, Refuses, Prints, Writes, Streams}
 
 -- a fact of told files that a call kept
 pub on-kept : (before after : Option Told) (P : List File → Type 0) → KeepsFiles before after → OnTold after (λ t. P t.files) → OnTold before (λ t. P t.files)
@@ -100,6 +102,10 @@ ends-kept before after (Prints is) e kept h = h
 ends-kept before after (Writes last is) e kept h = h
 ends-kept before after (Streams name stream) e kept h = (h.0, stream-ends-kept before after name stream e h.0 kept h.1)
 
+-- a count that rose later rose
+rose-later : (a b c : ℕ) → a ≤ b → Rose b c → Rose a c
+rose-later a b c le rose = grind arith
+
 -- what an answer says: what the inputs come to, or a count that rose
 abbrev pub Comes : Inputs → Inputs → Output → Output → Chain → Answer → Type 0
 Comes before after old new c (Ended e) = Ends before.told c e
@@ -118,10 +124,6 @@ stop-comes before after old new name judge next NoCommand h = h
 stop-comes before after old new name judge next (ReadFault failed) h = h.1
 stop-comes before after old new name judge next WriteFault h = absurd h
 stop-comes before after old new name judge next NoMemory h = tt
-
--- a count that rose later rose
-pub rose-later : (a b c : ℕ) → a ≤ b → Rose b c → Rose a c
-rose-later a b c le rose = grind arith
 
 later-comes :
     {A : Type 0} (before behind after : Inputs) (old new : Output) (name : List ℕ) (judge : List ℕ → Result A Reason → Type 0) (next : A → Chain) (a : A) (answer : Answer)
@@ -183,7 +185,7 @@ comes before after old new (Writes last is) answer h = pieces-come before after 
 comes before after old new (Streams name stream) answer h = stream-comes before after old new name stream answer h
 
 -- what was appended is a front of itself
-pub whole-front : (old new : Option (List ℕ)) (text : List ℕ) → new ≡ append_known old text → AppendsFront old new text
+whole-front : (old new : Option (List ℕ)) (text : List ℕ) → new ≡ append_known old text → AppendsFront old new text
 whole-front old new text h = (length text, omega arith, h ∙ ap (λ x. append_known old x) (sym (take-length text)))
 
 pub nothing : (w : Option (List ℕ)) → w ≡ append_known w []
@@ -267,3 +269,9 @@ forgets before after old new (Refuses name reason) answer n h = (inr refl, h.1)
 forgets before after old new (Prints is) answer n h = (h.0, whole-forgets old new is answer n h.1)
 forgets before after old new (Writes last is) answer n h = (h.0, pieces-forget old new last is answer n h.1)
 forgets before after old new (Streams name stream) answer n h = stream-forgets before after old new name stream answer n h
+
+-- nothing stands behind the text of all records
+pub all-behind :
+    (stream : Stream) (h : Head) (ps : List Packet) (text : List ℕ)
+    → stream.all_of h ps text → stream.all_of h ps (text ++ [])
+all-behind stream h ps text is = subst (λ t. stream.all_of h ps t) (sym (append-nil text)) is

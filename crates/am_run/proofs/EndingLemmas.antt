@@ -6,10 +6,10 @@ use Rattle.am_base.specs.Files.{OnFile}
 use Rattle.am_pcap.specs.Packets.{Packet}
 use Rattle.am_pcap.specs.declared.head.Head.{Head}
 use Rattle.am_pcap.specs.declared.refusal.CapError.{CapError}
-use Rattle.am_run.specs.Answers.{Reason, Ending, ending_status}
-use Rattle.am_run.specs.Answers.Ending.{Done, Missing, Refused}
-use Rattle.am_run.specs.Chains.{Stream, Chain, Judged, EndsHere, Ends, StreamRefuses, StreamEnds, IsTextOfAll, IsTextAtBad, IsTextBeforeRefused}
-use Rattle.am_run.specs.Chains.Chain.{Reads, Refuses, Prints, Writes, Streams}
+use Rattle.am_chain.specs.Answers.{Reason, Ending, ending_status}
+use Rattle.am_chain.specs.Answers.Ending.{Done, Missing, Refused}
+use Rattle.am_chain.specs.Chains.{Stream, Chain, Judged, EndsHere, Ends, StreamRefuses, StreamEnds, IsTextOfAll, IsTextAtBad, IsTextBeforeRefused}
+use Rattle.am_chain.specs.Chains.Chain.{Reads, Refuses, Prints, Writes, Streams}
 use Rattle.am_run.specs.Laws.{Excludes, CaptureExcludes}
 
 -- whatever two chains come to over these files, it has one status

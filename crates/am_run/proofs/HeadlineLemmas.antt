@@ -13,19 +13,20 @@ use Rattle.am_meter.specs.declared.stream.Marked.{Marked}
 use Rattle.am_world.specs.Delays.{TellsDelays}
 use Rattle.am_world.specs.Losses.{AreRecorded, IsCountedFrom, TellsDrops}
 use Rattle.am_world.specs.declared.event.Event.{Event}
-use Rattle.am_run.specs.Answers.{Answer, status}
-use Rattle.am_run.specs.Answers.Ending.{Done, Missing, Refused}
-use Rattle.am_run.specs.Answers.Answer.{Ended, NoCommand, ReadFault, WriteFault, NoMemory}
-use Rattle.am_run.specs.Chains.{Inputs, Output, Judged, Performs, PrintsAll}
+use Rattle.am_chain.specs.Answers.{Answer, status}
+use Rattle.am_chain.specs.Answers.Ending.{Done, Missing, Refused}
+use Rattle.am_chain.specs.Answers.Answer.{Ended, NoCommand, ReadFault, WriteFault, NoMemory}
+use Rattle.am_chain.specs.Chains.{Inputs, Output, Judged, Performs, PrintsAll}
 use Rattle.am_run.specs.Forms.{Command, chain_of}
 use Rattle.am_run.specs.Forms.Kind.{Auditing}
 use Rattle.am_run.specs.Headline.{TellsWorld, HaveCaptures, TellsEachWorld}
-use Rattle.am_run.specs.Inputs.{JudgesCapture, JudgesDomain}
+use Rattle.am_chain.specs.Inputs.{JudgesCapture, JudgesDomain}
 use Rattle.am_run.specs.Laws.{Laws}
 use Rattle.am_run.specs.Runs.{Obeys}
 use Rattle.am_run.specs.commands.Audit.{IsLossTable, audit_from, audit_chain}
 use Rattle.am_run.proofs.ChainLemmas.{on-file-kept}
-use Rattle.am_run.proofs.FormLemmas.{both-judged, says-once}
+use Rattle.am_run.proofs.FormLemmas.{says-once}
+use Rattle.am_run.proofs.SettledLemmas.{both-judged}
 
 -- what is known of worlds
 pub record KnownWorlds : Type 0 where

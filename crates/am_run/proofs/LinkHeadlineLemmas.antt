@@ -14,20 +14,21 @@ use Rattle.am_meter.specs.declared.stream.Marked.{Marked}
 use Rattle.am_world.specs.LinkLosses.{StandsAlone, CoverEnds, RecordEnds, dropped_on, counted_at, TellsLink}
 use Rattle.am_world.specs.Passes.{sends}
 use Rattle.am_world.specs.declared.event.Event.{Event}
-use Rattle.am_run.specs.Answers.{Answer, status}
-use Rattle.am_run.specs.Answers.Ending.{Done, Missing, Refused}
-use Rattle.am_run.specs.Answers.Answer.{Ended, NoCommand, ReadFault, WriteFault, NoMemory}
-use Rattle.am_run.specs.Chains.{Inputs, Output, Judged, Performs, PrintsAll}
+use Rattle.am_chain.specs.Answers.{Answer, status}
+use Rattle.am_chain.specs.Answers.Ending.{Done, Missing, Refused}
+use Rattle.am_chain.specs.Answers.Answer.{Ended, NoCommand, ReadFault, WriteFault, NoMemory}
+use Rattle.am_chain.specs.Chains.{Inputs, Output, Judged, Performs, PrintsAll}
 use Rattle.am_run.specs.Forms.{Command, chain_of}
 use Rattle.am_run.specs.Forms.Kind.{Linking}
-use Rattle.am_run.specs.Inputs.{JudgesCapture}
+use Rattle.am_chain.specs.Inputs.{JudgesCapture}
 use Rattle.am_run.specs.Laws.{Laws}
 use Rattle.am_run.specs.LinkHeadline.{TellsDropped, AsksOf, TellsEachLink}
 use Rattle.am_run.specs.Runs.{Obeys}
-use Rattle.am_run.specs.Tables.{Row, count_in}
+use Rattle.am_chain.specs.Tables.{Row, count_in}
 use Rattle.am_run.specs.commands.Link.{Link, IsLinkTable, link_times, link_chain}
 use Rattle.am_run.proofs.ChainLemmas.{on-file-kept}
-use Rattle.am_run.proofs.FormLemmas.{both-judged, says-once}
+use Rattle.am_run.proofs.FormLemmas.{says-once}
+use Rattle.am_run.proofs.SettledLemmas.{both-judged}
 
 -- what is known of two captures at the ends of a link
 abbrev pub KnownLinks : Type 0

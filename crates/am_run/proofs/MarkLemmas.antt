@@ -1,6 +1,6 @@
 -- The newest block of each flow, as records come; and what a record with its mark is.
 use Rattle.std.proofs.Common.{◌≡◌, ℕ, ◌+◌, ◌-◌, ◌*◌, ◌/◌, ◌%◌, ◌^◌, ◌<◌, ◌≤◌, Bool, List, [], ◌∷◌, ◌++◌, length, take, drop, refl, ap, sym, ◌∙◌, subst, arith, inl, inr}
-use Rattle.std.specs.Prelude.{IsTrue, nat_le, ◌↔◌, ◌⊎◌, Contains, replicate, slice_index, slice_index_or, slice_set, max}
+use Rattle.std.specs.Prelude.{IsTrue, nat_le, ◌↔◌, ◌⊎◌, Contains, slice_index, slice_index_or, slice_set, max}
 use Rattle.std.proofs.lemmas.List.{length-append, length-take, length-drop, take-append-drop, length-set, get_or-set_same, get_or-set_other}
 use Rattle.std.proofs.lemmas.List.Elements.{Contains-append_left, Contains-append_right, Contains-append_cases}
 use Rattle.am_opts.specs.Marking.{Marking, IsCanonical}
@@ -13,16 +13,11 @@ use Rattle.am_pcap.specs.declared.head.Head.{Head}
 use Rattle.am_domain.specs.Domains.{DomainValue}
 use Rattle.am_run.specs.Rewriting.{IsOfFlow, IsOfNoFlow, with_packet}
 use Rattle.am_run.specs.Marking.{IsNewest, AreNewest, PlansMark, MarksRecord}
-use Rattle.am_run.specs.commands.Mark.{IsInBlock, IsAhead, RefusesMark, marks, marked_records}
-use Rattle.am_run.specs.Answers.{Reason}
-use Rattle.am_run.specs.Laws.{Laws, AreOneFrame}
-use Rattle.am_run.proofs.EndingLemmas.{StreamExcludes}
-use Rattle.am_run.proofs.RewriteLemmas.{split, same, rewritten-at, is-rewritten-more}
-use Rattle.am_run.specs.Printing.{AddsRecord}
+use Rattle.am_run.specs.commands.Mark.{IsInBlock, IsAhead, marks, marked_records}
+use Rattle.am_run.proofs.RewriteLemmas.{split, same, is-rewritten-more}
+use Rattle.am_chain.specs.Printing.{AddsRecord}
 use Rattle.am_insert.specs.Changes.{put_in, lengthened, with_payload, kind_of, size_place, header_end, spot_of_new}
-use Rattle.am_insert.specs.Inserting.{Inserted, IsOpen}
-use Rattle.am_pcap.specs.CaptureFiles.{is_whole}
-use Rattle.am_pcap.specs.declared.frame.Frame.TheVariants.{Ip6}
+use Rattle.am_insert.specs.Inserting.{Inserted}
 
 -- a list of one has that one alone
 only-one : (p q : Packet) → Contains (p ∷ []) q → p ≡ q
@@ -148,30 +143,6 @@ gets-mark d h ps p at number newest block packet q of_flow plan n e = inl (recor
   inserted = plan.inserted;
   marked = e;
 })
-
--- a packet begins at one place of its record
-one-place : (d : DomainValue) (h : Head) (p : Packet) (a b m n : ℕ) → AreOneFrame → IsOfFlow d h.link p a m → IsOfFlow d h.link p b n → a ≡ b
-one-place d h p a b m n frames f g = let same = frames h.link p.bytes (is_whole p) (Ip6 a) (Ip6 b) f.packet.framed g.packet.framed in cc (same)
-
--- a record that got its mark, or that is of no flow, is not refused
-not-both : (d : DomainValue) (h : Head) (ps : List Packet) (p q : Packet) (reason : Reason) → AreOneFrame → marks d h ps p q → RefusesMark d h ps p reason → ⊥
-not-both d h ps p q reason frames m r = elim m [
-  | inl g ↦
-      let same = one-place d h p g.at r.0 g.number r.1 frames g.of_flow r.2 in
-      elim r.3 [
-        | inl x ↦ subst (λ a. IsOpen (drop a p.bytes) (is_whole p) d.kind) same g.unhindered x.0 x.2.hinders
-        | inr x ↦ g.room x.2
-      ]
-  | inr none ↦ none.0 r.0 r.1 r.2
-]
-
--- a capture that is printed whole with its marks has no record that is refused
-pub marks-exclude : (d : DomainValue) → Laws → StreamExcludes (marked_records d)
-marks-exclude d laws = record {
-  never = λ h ps p more reason text refused all.
-      let at = rewritten-at (marks d) h [] ps p more all.records all.rewritten in
-      not-both d h ps p at.0 reason laws.frames at.1 refused;
-}
 
 length-put : (r bytes : List ℕ) (at : ℕ) → length (put_in r at bytes) ≡ length r + length bytes
 length-put r bytes at =

@@ -9,11 +9,11 @@ use Rattle.std.proofs.lemmas.Slice.Eq.{bytes_eq-Decides}
 use Rattle.am_domain.specs.Domains.{DomainValue}
 use Rattle.am_domain.specs.Network.{IsNumberOf, IsNoNode}
 use Rattle.am_domain.specs.Values.{NodeValue, no_node}
-use Rattle.am_run.specs.Answers.{Answer}
-use Rattle.am_run.specs.Answers.Answer.{Ended}
-use Rattle.am_run.specs.Answers.Ending.{Refused}
-use Rattle.am_run.specs.Answers.Reason.{UnknownNode}
-use Rattle.am_run.specs.Chains.{Inputs, Output, Chain, Performs}
+use Rattle.am_chain.specs.Answers.{Answer}
+use Rattle.am_chain.specs.Answers.Answer.{Ended}
+use Rattle.am_chain.specs.Answers.Ending.{Refused}
+use Rattle.am_chain.specs.Answers.Reason.{UnknownNode}
+use Rattle.am_chain.specs.Chains.{Inputs, Output, Chain, Performs}
 use Rattle.am_run.specs.NodeWords.{node_named, at_node}
 
 -- whether a node has this name

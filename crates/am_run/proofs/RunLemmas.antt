@@ -3,15 +3,17 @@ use Rattle.std.proofs.Common.{arith, refl, sym, ap, subst, ◌∙◌, ◌≡◌,
 use Rattle.std.specs.Prelude.{◌⊎◌}
 use Rattle.am_base.specs.Counts.{Rose}
 use Rattle.am_base.specs.Shelves.{Told, OnTold}
-use Rattle.am_run.specs.Answers.{Ending, Answer, ending_status, status}
-use Rattle.am_run.specs.Answers.Ending.{Done, Missing, Refused}
-use Rattle.am_run.specs.Answers.Answer.{Ended, NoCommand, ReadFault, WriteFault, NoMemory}
-use Rattle.am_run.specs.Chains.{Inputs, Output, Ends, Performs}
+use Rattle.am_chain.specs.Answers.{Ending, Answer, ending_status, status}
+use Rattle.am_chain.specs.Answers.Ending.{Done, Missing, Refused}
+use Rattle.am_chain.specs.Answers.Answer.{Ended, NoCommand, ReadFault, WriteFault, NoMemory}
+use Rattle.am_chain.specs.Chains.{Inputs, Output, Ends, Performs}
 use Rattle.am_run.specs.Forms.{Command, SaysCommand, IsNoCommand, chain_of}
 use Rattle.am_run.specs.Laws.{Laws}
-use Rattle.am_run.specs.Runs.{Obeys, IsDecided, Completes, NamesFile}
+use Rattle.am_run.specs.Runs.{Obeys, IsDecided, Completes}
+use Rattle.am_chain.specs.Answers.{NamesFile}
 use Rattle.am_run.proofs.ChainLemmas.{comes, forgets}
-use Rattle.am_run.proofs.FormLemmas.{settled, says-once}
+use Rattle.am_run.proofs.FormLemmas.{says-once}
+use Rattle.am_run.proofs.SettledLemmas.{settled}
 
 -- a status that isn't 2
 named-two : (e : Ending) → ending_status e ≡ 2 → ⊥

@@ -1,5 +1,5 @@
 -- One more record shown: its line behind those before it.
-use Rattle.std.proofs.Common.{◌≡◌, ℕ, ◌+◌, Bool, List, [], ◌∷◌, ◌++◌, length, take, drop, Option, None, Some, refl, ap, sym, ◌∙◌, subst, arith, append_assoc, codes, decimal}
+use Rattle.std.proofs.Common.{◌≡◌, ℕ, ◌+◌, Bool, List, [], ◌∷◌, ◌++◌, length, take, drop, Option, None, Some, Result, Ok, Err, OnOk, refl, ap, sym, ◌∙◌, subst, arith, append_assoc, codes, decimal}
 use Rattle.std.proofs.lemmas.List.{append-nil, length-take-le, length-drop}
 use Rattle.std.proofs.lemmas.Fmt.{decimal_digit}
 use Rattle.am_opts.specs.Marking.{Marking}
@@ -10,10 +10,15 @@ use Rattle.am_pcap.specs.Frames.{IsFramed}
 use Rattle.am_pcap.specs.declared.head.Head.{Head}
 use Rattle.am_pcap.specs.declared.frame.Frame.{Frame}
 use Rattle.am_pcap.specs.declared.frame.Frame.TheVariants.{Ip6}
-use Rattle.am_run.specs.Printing.{Grows}
+use Rattle.am_chain.specs.Printing.{Grows}
 use Rattle.am_run.specs.Showing.{AddsPacket, mark_text, brief_text}
 use Rattle.am_pcap.specs.CaptureFiles.{is_whole}
 use Rattle.am_run.specs.Lines.{IsLine, AreLines, IsFrameText, IsPacketText, record_text}
+
+-- what holds of an `Ok` by another fact
+pub on-ok : {T E : Type 0} {P Q : Type 0} (r : Result T E) → (P → Q) → OnOk r P → OnOk r Q
+on-ok (Ok x) f p = f p
+on-ok (Err e) f p = p
 
 -- the lines of records, and one more behind them
 pub AreLines-more :

@@ -1,10 +1,10 @@
 -- What `sim` printed where it is done: the text of rows that are right.
 use Rattle.std.proofs.Common.{arith, ap, ◌∙◌, ◌≡◌, ℕ, List, inl, inr}
 use Rattle.std.specs.Io.KnownBytes.{append_known}
-use Rattle.am_run.specs.Answers.{Answer, status}
-use Rattle.am_run.specs.Answers.Ending.{Done, Missing, Refused}
-use Rattle.am_run.specs.Answers.Answer.{Ended, NoCommand, ReadFault, WriteFault, NoMemory}
-use Rattle.am_run.specs.Chains.{Inputs, Output, Performs}
+use Rattle.am_chain.specs.Answers.{Answer, status}
+use Rattle.am_chain.specs.Answers.Ending.{Done, Missing, Refused}
+use Rattle.am_chain.specs.Answers.Answer.{Ended, NoCommand, ReadFault, WriteFault, NoMemory}
+use Rattle.am_chain.specs.Chains.{Inputs, Output, Performs}
 use Rattle.am_run.specs.Forms.{Command, chain_of}
 use Rattle.am_run.specs.Forms.Kind.{Simulating}
 use Rattle.am_run.specs.Runs.{Obeys}

@@ -8,7 +8,7 @@ use Rattle.am_pcap.specs.Spelling.{record_bytes}
 use Rattle.am_pcap.specs.declared.head.Head.{Head}
 use Rattle.am_domain.specs.Domains.{DomainValue}
 use Rattle.am_insert.specs.Stripping.{Stripped}
-use Rattle.am_run.specs.Printing.{AddsRecord}
+use Rattle.am_chain.specs.Printing.{AddsRecord}
 use Rattle.am_run.specs.Rewriting.{with_packet}
 use Rattle.am_run.specs.commands.Strip.{HasOwnMark, HasNoOwnMark, strips, stripped_records}
 use Rattle.am_run.proofs.RewriteLemmas.{slice-rest, is-rewritten-more}

@@ -25,12 +25,12 @@ use Rattle.am_pcap.specs.declared.frame.LinkKind.TheVariants.{Ethernet, RawIp, R
 use Rattle.am_pcap.specs.declared.head.Head.{Head}
 use Rattle.am_domain.specs.Domains.{DomainValue}
 use Rattle.am_domain.specs.Lookups.{IsFirstWith, Holds}
-use Rattle.am_run.specs.Answers.{Ending}
-use Rattle.am_run.specs.Answers.Ending.{Done, Missing, Refused}
-use Rattle.am_run.specs.Answers.Answer.{Ended}
-use Rattle.am_run.specs.Chains.{Inputs, Output, inputs, StreamEnds, StreamsSo, IsTextOfAll, Judged, StopsHere, PrintsAll}
-use Rattle.am_run.specs.Inputs.{JudgesDomain}
-use Rattle.am_run.specs.WordForms.{DomainFile}
+use Rattle.am_chain.specs.Answers.{Ending}
+use Rattle.am_chain.specs.Answers.Ending.{Done, Missing, Refused}
+use Rattle.am_chain.specs.Answers.Answer.{Ended}
+use Rattle.am_chain.specs.Chains.{Inputs, Output, inputs, StreamEnds, StreamsSo, IsTextOfAll, Judged, StopsHere, PrintsAll}
+use Rattle.am_chain.specs.Inputs.{JudgesDomain}
+use Rattle.am_chain.specs.WordForms.{DomainFile}
 use Rattle.am_run.specs.Laws.{Laws, AreOneFrame}
 use Rattle.am_run.specs.Rewriting.{HasPacketAt, with_packet, AreRewritten, IsRewritten}
 use Rattle.am_run.specs.commands.Mark.{GetsMark, marks, marked_records, mark_chain}

@@ -4,8 +4,8 @@ use Rattle.std.specs.List.{AllZip}
 use Rattle.am_domain.specs.Domains.{DomainValue, IsLawful}
 use Rattle.am_meter.specs.declared.stream.Marked.{Marked}
 use Rattle.am_report.specs.declared.read.Report.{Report}
-use Rattle.am_run.specs.Gathering.{node_without}
-use Rattle.am_run.specs.Inputs.{JudgesReport}
+use Rattle.am_chain.specs.Gathering.{node_without}
+use Rattle.am_chain.specs.Inputs.{JudgesReport}
 use Rattle.am_run.specs.commands.Audit.{IsLossTable}
 use Rattle.am_run.specs.commands.Loss.{IsTableOfReports}
 use Rattle.am_run.specs.commands.Meter.{IsNodeReport}

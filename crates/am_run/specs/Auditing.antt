@@ -5,8 +5,8 @@ use Rattle.am_control.specs.Controls.{ControlValue}
 use Rattle.am_control.specs.Plans.{LossPlan}
 use Rattle.am_domain.specs.Domains.{DomainValue}
 use Rattle.am_meter.specs.declared.stream.Marked.{Marked}
-use Rattle.am_run.specs.Answers.{Answer}
-use Rattle.am_run.specs.Chains.{Inputs, Output, Performs}
+use Rattle.am_chain.specs.Answers.{Answer}
+use Rattle.am_chain.specs.Chains.{Inputs, Output, Performs}
 use Rattle.am_run.specs.commands.Audit.{HaveCells, IsLossTable, audit_from}
 use Rattle.am_run.specs.commands.Meter.{IsNodeReport}
 

@@ -1,6 +1,6 @@
 -- The commands: which word names each, what the words after it say, and the chain that it performs.
 use Rattle.std.specs.Prelude.{◌≡◌, ℕ, List, ◌∷◌, codes}
-use Rattle.am_run.specs.Chains.{Chain}
+use Rattle.am_chain.specs.Chains.{Chain}
 use Rattle.am_run.specs.commands.Link.{Link, SaysLinkWords, link_chain}
 use Rattle.am_run.specs.commands.Show.{Show, SaysShowWords, show_chain}
 use Rattle.am_run.specs.commands.Check.{Check, SaysCheckWords, check_chain}
@@ -11,7 +11,7 @@ use Rattle.am_run.specs.commands.Loss.{Loss, SaysLossWords, loss_chain}
 use Rattle.am_run.specs.commands.Sim.{Sim, SaysSimWords, sim_chain}
 use Rattle.am_run.specs.commands.Mark.{mark_chain}
 use Rattle.am_run.specs.commands.Strip.{strip_chain}
-use Rattle.am_run.specs.WordForms.{DomainFile, SaysDomainFile}
+use Rattle.am_chain.specs.WordForms.{DomainFile, SaysDomainFile}
 
 -- the one record that every command states
 pub record Form : Type 1 where

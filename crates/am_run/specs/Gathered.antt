@@ -3,9 +3,9 @@ use Rattle.std.specs.Prelude.{ℕ, ◌≤◌, List, [], length, drop}
 use Rattle.am_control.specs.Controls.{ControlValue}
 use Rattle.am_domain.specs.Domains.{DomainValue}
 use Rattle.am_report.specs.declared.read.Report.{Report}
-use Rattle.am_run.specs.Answers.{Answer}
-use Rattle.am_run.specs.Chains.{Inputs, Output, Performs}
-use Rattle.am_run.specs.Gathering.{HasReports}
+use Rattle.am_chain.specs.Answers.{Answer}
+use Rattle.am_chain.specs.Chains.{Inputs, Output, Performs}
+use Rattle.am_chain.specs.Gathering.{HasReports}
 use Rattle.am_run.specs.commands.Loss.{loss_from}
 
 -- the reports of these files come to this stop, and nothing is printed, however the output stands

@@ -10,10 +10,10 @@ use Rattle.am_meter.specs.declared.stream.Marked.{Marked}
 use Rattle.am_world.specs.Delays.{TellsDelays}
 use Rattle.am_world.specs.Losses.{AreRecorded, TellsDrops}
 use Rattle.am_world.specs.declared.event.Event.{Event}
-use Rattle.am_run.specs.Chains.{Judged}
+use Rattle.am_chain.specs.Chains.{Judged}
 use Rattle.am_run.specs.Forms.{SaysCommand}
 use Rattle.am_run.specs.Forms.Kind.{Auditing}
-use Rattle.am_run.specs.Inputs.{JudgesCapture, JudgesDomain}
+use Rattle.am_chain.specs.Inputs.{JudgesCapture, JudgesDomain}
 
 -- the text is a loss table, and of each flow and reported block the loss of each cluster is the number of packets that the
 -- world drops in it, that of the network the number dropped in all clusters, and each delay is how long the packets took, but

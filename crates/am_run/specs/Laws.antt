@@ -10,8 +10,8 @@ use Rattle.am_pcap.specs.declared.frame.Frame.{Frame}
 use Rattle.am_pcap.specs.declared.frame.LinkKind.{LinkKind}
 use Rattle.am_domain.specs.Domains.{DomainValue, IsLawful}
 use Rattle.am_report.specs.declared.read.Report.{Report}
-use Rattle.am_run.specs.Answers.{Reason}
-use Rattle.am_run.specs.Inputs.{JudgesCapture, JudgesDomain, JudgesReport}
+use Rattle.am_chain.specs.Answers.{Reason}
+use Rattle.am_chain.specs.Inputs.{JudgesCapture, JudgesDomain, JudgesReport}
 
 -- bytes of which something is taken aren't refused
 pub record Excludes {A : Type 0} (judge : List ℕ → Result A Reason → Type 0) : Type 0 where

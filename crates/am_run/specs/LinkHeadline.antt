@@ -13,11 +13,11 @@ use Rattle.am_meter.specs.declared.stream.Marked.{Marked}
 use Rattle.am_world.specs.LinkLosses.{StandsAlone, CoverEnds, RecordEnds, dropped_on}
 use Rattle.am_world.specs.Passes.{sends}
 use Rattle.am_world.specs.declared.event.Event.{Event}
-use Rattle.am_run.specs.Chains.{Judged}
+use Rattle.am_chain.specs.Chains.{Judged}
 use Rattle.am_run.specs.Forms.{SaysCommand}
 use Rattle.am_run.specs.Forms.Kind.{Linking}
-use Rattle.am_run.specs.Inputs.{JudgesCapture}
-use Rattle.am_run.specs.Tables.{Row, table_text}
+use Rattle.am_chain.specs.Inputs.{JudgesCapture}
+use Rattle.am_chain.specs.Tables.{Row, table_text}
 use Rattle.am_run.specs.commands.Link.{Link}
 
 -- the text is a table of blocks, and of each block that the captures of both ends of the link cover, the loss is the number of the

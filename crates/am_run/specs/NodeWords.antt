@@ -3,9 +3,9 @@ use Rattle.std.specs.Prelude.{ℕ, List, Option, Some, None, bytes_eq}
 use Rattle.std.specs.List.{position}
 use Rattle.am_domain.specs.Domains.{DomainValue}
 use Rattle.am_domain.specs.Values.{NodeValue}
-use Rattle.am_run.specs.Answers.Reason.{UnknownNode}
-use Rattle.am_run.specs.Chains.{Chain}
-use Rattle.am_run.specs.Chains.Chain.{Refuses}
+use Rattle.am_chain.specs.Answers.Reason.{UnknownNode}
+use Rattle.am_chain.specs.Chains.{Chain}
+use Rattle.am_chain.specs.Chains.Chain.{Refuses}
 
 -- the number of the domain's node of this name, if it has one
 abbrev pub node_named : DomainValue → List ℕ → Option ℕ

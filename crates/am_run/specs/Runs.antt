@@ -1,14 +1,13 @@
 -- What a run of the program does: the words are a command and its chain is performed, or they are none.
-use Rattle.std.specs.Prelude.{◌≡◌, ◌⊎◌, ℕ, ⊤, List, Option}
+use Rattle.std.specs.Prelude.{◌≡◌, ◌⊎◌, ℕ, List, Option}
 use Rattle.std.specs.Io.KnownBytes.{append_known}
 use Rattle.am_base.specs.Counts.{Rose}
 use Rattle.am_base.specs.Shelves.{Told}
 use Rattle.am_base.specs.Sinks.{AppendsFront}
-use Rattle.am_run.specs.Answers.{Ending, Answer, ending_status, line}
-use Rattle.am_run.specs.Answers.{status as status_of}
-use Rattle.am_run.specs.Answers.Ending.{Done, Missing, Refused}
-use Rattle.am_run.specs.Answers.Answer.{Ended, NoCommand, ReadFault, WriteFault, NoMemory}
-use Rattle.am_run.specs.Chains.{Inputs, Output, Ends, Performs}
+use Rattle.am_chain.specs.Answers.{Ending, Answer, NamesFile, ending_status, line}
+use Rattle.am_chain.specs.Answers.{status as status_of}
+use Rattle.am_chain.specs.Answers.Answer.{NoCommand, NoMemory}
+use Rattle.am_chain.specs.Chains.{Inputs, Output, Ends, Performs}
 use Rattle.am_run.specs.Forms.{Command, SaysCommand, IsNoCommand, chain_of}
 
 -- the words are no command, and nothing was printed
@@ -54,16 +53,6 @@ pub record Answers (words : List (List ℕ)) (before after : Inputs) (out_old ou
   pub status_is : status_of answer ≡ result
   pub obeys : Obeys words before after out_old out_new answer
   pub tells : TellsLine err_old err_new (line answer)
-
--- a stop that names a file
-abbrev pub NamesFile : Answer → Type 0
-NamesFile (Ended Done) = ⊥
-NamesFile (Ended (Missing name)) = ⊤
-NamesFile (Ended (Refused name reason)) = ⊤
-NamesFile NoCommand = ⊥
-NamesFile (ReadFault name) = ⊤
-NamesFile WriteFault = ⊥
-NamesFile NoMemory = ⊥
 
 -- a stop is told as itself, or, where it names a file, as want of memory
 pub record IsToldAs (old new : Output) (stop : Answer) (result : ℕ) : Type 0 where

@@ -5,11 +5,11 @@ use Rattle.am_base.specs.Files.{HasFile}
 use Rattle.am_pcap.specs.declared.seeking.TheConstants.{MAX_READ}
 use Rattle.am_domain.specs.Domains.{DomainValue}
 use Rattle.am_insert.specs.Changes.{IsBytes}
-use Rattle.am_run.specs.Answers.{Ending, Answer}
-use Rattle.am_run.specs.Answers.Ending.{Done}
-use Rattle.am_run.specs.Answers.Answer.{Ended}
-use Rattle.am_run.specs.Chains.{Inputs, Output, inputs, Chain, StreamEnds, Performs}
-use Rattle.am_run.specs.WordForms.{DomainFile}
+use Rattle.am_chain.specs.Answers.{Ending, Answer}
+use Rattle.am_chain.specs.Answers.Ending.{Done}
+use Rattle.am_chain.specs.Answers.Answer.{Ended}
+use Rattle.am_chain.specs.Chains.{Inputs, Output, inputs, Chain, StreamEnds, Performs}
+use Rattle.am_chain.specs.WordForms.{DomainFile}
 use Rattle.am_run.specs.commands.Mark.{marked_records, mark_chain}
 use Rattle.am_run.specs.commands.Strip.{stripped_records, strip_chain}
 

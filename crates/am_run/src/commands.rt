@@ -3,9 +3,10 @@
 //! A command is a file here and a file in `specs/commands/`, where its chain of inputs is stated. It joins by a case in
 //! each of the two functions below.
 ghost use Rattle.std.specs.Prelude.{◌∷◌, map, string_bytes, IfSome, IfNone};
-ghost use Rattle.am_run.specs.Chains.{inputs, output, Performs};
+ghost use Rattle.am_chain.specs.Chains.{inputs, output, Performs};
 ghost use Rattle.am_run.specs.Forms.{SaysCommand, IsNoCommand, chain_of};
-ghost use Rattle.am_run.specs.Shown.{command_shown, answer_of};
+ghost use Rattle.am_chain.specs.Shown.{answer_of};
+ghost use Rattle.am_run.specs.Asked.{command_shown};
 
 mod audit;
 mod check;
@@ -18,9 +19,9 @@ mod show;
 mod sim;
 mod strip;
 
-use crate::answer::Stop;
-use crate::words::{DomainFileWords, domain_file_of};
 use am_base::{Shelf, Sink};
+use am_chain::answer::Stop;
+use am_chain::words::{DomainFileWords, domain_file_of};
 use audit::AuditWords;
 use check::CheckWords;
 use clusters::ClustersWords;

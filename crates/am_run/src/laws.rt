@@ -5,6 +5,7 @@ ghost use Rattle.am_run.specs.Laws.{Laws};
 ghost use Rattle.am_run.specs.Undoing.{StripUndoesMark, RunsUndo};
 
 use am_cells::cells_law;
+use am_chain::laws::reports_law;
 use am_domain::domain_law;
 use am_insert::{address_law, insert_law, open_law, strip_law};
 use am_meter::marks_are_one;
@@ -52,4 +53,5 @@ pub fn loss_is_audit()
 {
     cells_law();
     report_law();
+    reports_law();
 }

@@ -5,13 +5,7 @@
 //! commands whatever their inputs are.
 #![tactic(auto)]
 
-mod answer;
 mod commands;
-mod counting;
-mod inputs;
 pub mod laws;
-mod printing;
 mod rewriting;
 pub mod run;
-mod table;
-mod words;

@@ -2,19 +2,19 @@
 ghost use Rattle.std.specs.Prelude.{◌≡◌, ◌⊎◌, ◌↔◌, Some, map, string_bytes};
 ghost use Rattle.am_base.specs.Counts.{Rose};
 ghost use Rattle.am_base.specs.Shelves.{OnTold};
-ghost use Rattle.am_run.specs.Answers.{line, status};
-ghost use Rattle.am_run.specs.Chains.{inputs, output};
+ghost use Rattle.am_chain.specs.Answers.{line, status};
+ghost use Rattle.am_chain.specs.Chains.{inputs, output};
 ghost use Rattle.am_run.specs.Forms.{IsNoCommand};
 ghost use Rattle.am_run.specs.Headline.{TellsEachWorld};
 ghost use Rattle.am_run.specs.LinkHeadline.{TellsEachLink};
 ghost use Rattle.am_run.specs.Runs.{Answers, Obeys, IsDecided, Completes, TellsLine, IsToldAs};
-ghost use Rattle.am_run.specs.Shown.{stop_shown, answer_of};
+ghost use Rattle.am_chain.specs.Shown.{stop_shown, answer_of};
 ghost use Rattle.am_run.specs.SimHeadline.{TellsSim};
 
-use crate::answer::Stop;
 use crate::commands::{command_of, perform};
 use crate::laws::laws;
 use am_base::{Shelf, Sink, put};
+use am_chain::answer::Stop;
 use am_world::{link_law, world_law};
 use std::alloc::Global;
 

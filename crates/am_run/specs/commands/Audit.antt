@@ -7,11 +7,11 @@ use Rattle.am_control.specs.Texts.{loss_text}
 use Rattle.am_domain.specs.Domains.{DomainValue}
 use Rattle.am_domain.specs.Values.{NodeValue}
 use Rattle.am_meter.specs.declared.stream.Marked.{Marked}
-use Rattle.am_run.specs.Answers.Ending.{Done}
-use Rattle.am_run.specs.Chains.{Chain}
-use Rattle.am_run.specs.Chains.Chain.{Reads, Writes}
-use Rattle.am_run.specs.Inputs.{JudgesCapture, JudgesDomain}
-use Rattle.am_run.specs.NodeCells.{AreWholeCells}
+use Rattle.am_chain.specs.Answers.Ending.{Done}
+use Rattle.am_chain.specs.Chains.{Chain}
+use Rattle.am_chain.specs.Chains.Chain.{Reads, Writes}
+use Rattle.am_chain.specs.Inputs.{JudgesCapture, JudgesDomain}
+use Rattle.am_chain.specs.NodeCells.{AreWholeCells}
 use Rattle.am_domain.specs.Texts.{IsFileName}
 
 -- what it is asked: the domain file that names the captures

@@ -7,9 +7,9 @@ use Rattle.am_domain.specs.Values.{FlowValue, NodeValue}
 use Rattle.am_domain.specs.Network.{shift_at}
 use Rattle.am_domain.specs.Domains.{DomainValue}
 use Rattle.am_domain.specs.declared.link.Edge.{Edge}
-use Rattle.am_run.specs.Chains.{Chain}
-use Rattle.am_run.specs.Chains.Chain.{Reads, Prints}
-use Rattle.am_run.specs.Inputs.{JudgesDomain}
+use Rattle.am_chain.specs.Chains.{Chain}
+use Rattle.am_chain.specs.Chains.Chain.{Reads, Prints}
+use Rattle.am_chain.specs.Inputs.{JudgesDomain}
 use Rattle.am_domain.specs.Texts.{IsFileName}
 
 -- what it is asked: the domain file that is checked

@@ -5,9 +5,9 @@ use Rattle.am_domain.specs.Domains.{DomainValue}
 use Rattle.am_graph.specs.Lists.{list_at}
 use Rattle.am_graph.specs.Graphs.{graph_of}
 use Rattle.am_graph.specs.Clusters.{ClustersValue, AreClusters, count_of}
-use Rattle.am_run.specs.Chains.{Chain}
-use Rattle.am_run.specs.Chains.Chain.{Reads, Prints}
-use Rattle.am_run.specs.Inputs.{JudgesDomain}
+use Rattle.am_chain.specs.Chains.{Chain}
+use Rattle.am_chain.specs.Chains.Chain.{Reads, Prints}
+use Rattle.am_chain.specs.Inputs.{JudgesDomain}
 use Rattle.am_domain.specs.Texts.{IsFileName}
 use Rattle.am_run.specs.commands.Check.{name_of}
 

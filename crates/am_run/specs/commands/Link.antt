@@ -4,12 +4,12 @@ use Rattle.am_clock.specs.Times.{Times}
 use Rattle.am_clock.specs.declared.timing.TheConstants.{MAX_TIME}
 use Rattle.am_ip6.specs.declared.marks.Place.TheVariants.{HopByHop}
 use Rattle.am_meter.specs.declared.stream.Marked.{Marked}
-use Rattle.am_run.specs.Chains.{Chain}
-use Rattle.am_run.specs.Chains.Chain.{Reads, Prints}
-use Rattle.am_run.specs.Inputs.{JudgesCapture}
-use Rattle.am_run.specs.Tables.{Row, IsCountTable, count_in, table_text}
+use Rattle.am_chain.specs.Chains.{Chain}
+use Rattle.am_chain.specs.Chains.Chain.{Reads, Prints}
+use Rattle.am_chain.specs.Inputs.{JudgesCapture}
+use Rattle.am_chain.specs.Tables.{Row, IsCountTable, count_in, table_text}
 use Rattle.am_domain.specs.Texts.{IsFileName}
-use Rattle.am_run.specs.WordForms.{WritesNumber}
+use Rattle.am_chain.specs.WordForms.{WritesNumber}
 
 -- what it is asked: how long a block lasts, how late the second point may see it, the flow, and the captures of the two points
 pub record Link : Type 0 where

@@ -6,12 +6,12 @@ use Rattle.am_control.specs.Texts.{loss_text}
 use Rattle.am_domain.specs.Domains.{DomainValue}
 use Rattle.am_report.specs.Rows.{node_name}
 use Rattle.am_report.specs.declared.read.Report.{Report}
-use Rattle.am_run.specs.Answers.Ending.{Done}
-use Rattle.am_run.specs.Answers.Reason.{NoReport}
-use Rattle.am_run.specs.Chains.{Chain}
-use Rattle.am_run.specs.Chains.Chain.{Reads, Refuses, Writes}
-use Rattle.am_run.specs.Gathering.{cells_of_each, node_without}
-use Rattle.am_run.specs.Inputs.{JudgesDomain, JudgesReport}
+use Rattle.am_chain.specs.Answers.Ending.{Done}
+use Rattle.am_chain.specs.Answers.Reason.{NoReport}
+use Rattle.am_chain.specs.Chains.{Chain}
+use Rattle.am_chain.specs.Chains.Chain.{Reads, Refuses, Writes}
+use Rattle.am_chain.specs.Gathering.{cells_of_each, node_without}
+use Rattle.am_chain.specs.Inputs.{JudgesDomain, JudgesReport}
 use Rattle.am_domain.specs.Texts.{IsFileName}
 
 -- what it is asked: the domain file, and the reports

@@ -9,13 +9,13 @@ use Rattle.am_domain.specs.Domains.{DomainValue}
 use Rattle.am_domain.specs.Values.{FlowValue}
 use Rattle.am_insert.specs.Inserting.{Inserted, HindersFirst, IsOpen}
 use Rattle.am_insert.specs.declared.insert.InsertError.{InsertError}
-use Rattle.am_run.specs.Answers.{Reason}
-use Rattle.am_run.specs.Answers.Reason.{NotInserted, RecordFull}
-use Rattle.am_run.specs.Chains.{Chain, Stream}
-use Rattle.am_run.specs.Chains.Chain.{Reads, Streams}
-use Rattle.am_run.specs.Inputs.{JudgesDomain}
+use Rattle.am_chain.specs.Answers.{Reason}
+use Rattle.am_chain.specs.Answers.Reason.{NotInserted, RecordFull}
+use Rattle.am_chain.specs.Chains.{Chain, Stream}
+use Rattle.am_chain.specs.Chains.Chain.{Reads, Streams}
+use Rattle.am_chain.specs.Inputs.{JudgesDomain}
 use Rattle.am_run.specs.Rewriting.{IsOfFlow, IsOfNoFlow, with_packet, Rewrite, IsRewritten}
-use Rattle.am_run.specs.WordForms.{DomainFile}
+use Rattle.am_chain.specs.WordForms.{DomainFile}
 
 -- the record is of this flow, and its reading is in this block
 pub record IsInBlock (d : DomainValue) (h : Head) (p : Packet) (number block : ℕ) : Type 0 where

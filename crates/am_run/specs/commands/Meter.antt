@@ -5,10 +5,10 @@ use Rattle.am_domain.specs.Domains.{DomainValue}
 use Rattle.am_meter.specs.MeteredFiles.{capture_of}
 use Rattle.am_meter.specs.declared.stream.Marked.{Marked}
 use Rattle.am_report.specs.Rows.{report_text}
-use Rattle.am_run.specs.Chains.{Chain}
-use Rattle.am_run.specs.Chains.Chain.{Reads, Prints}
-use Rattle.am_run.specs.Inputs.{JudgesCapture, JudgesDomain}
-use Rattle.am_run.specs.NodeCells.{AreWholeCells}
+use Rattle.am_chain.specs.Chains.{Chain}
+use Rattle.am_chain.specs.Chains.Chain.{Reads, Prints}
+use Rattle.am_chain.specs.Inputs.{JudgesCapture, JudgesDomain}
+use Rattle.am_chain.specs.NodeCells.{AreWholeCells}
 use Rattle.am_run.specs.NodeWords.{at_node, node_named}
 use Rattle.am_domain.specs.Texts.{IsFileName}
 

@@ -1,7 +1,7 @@
 -- The command `show`: what each record of a capture says, a line a record.
 use Rattle.std.specs.Prelude.{◌≡◌, ℕ, List, [], ◌∷◌}
-use Rattle.am_run.specs.Chains.{Chain, Stream}
-use Rattle.am_run.specs.Chains.Chain.{Streams}
+use Rattle.am_chain.specs.Chains.{Chain, Stream}
+use Rattle.am_chain.specs.Chains.Chain.{Streams}
 use Rattle.am_run.specs.Lines.{AreLines}
 use Rattle.am_domain.specs.Texts.{IsFileName}
 

@@ -6,11 +6,11 @@ use Rattle.am_domain.specs.Texts.{IsFileName}
 use Rattle.am_sim.specs.Simulating.{IsSimulated, IsRight}
 use Rattle.am_sim.specs.Texts.{sim_text}
 use Rattle.am_sim.specs.declared.row.SimRow.{SimRow}
-use Rattle.am_run.specs.Chains.{Chain}
-use Rattle.am_run.specs.Chains.Chain.{Reads, Prints}
-use Rattle.am_run.specs.Inputs.{JudgesDomain}
+use Rattle.am_chain.specs.Chains.{Chain}
+use Rattle.am_chain.specs.Chains.Chain.{Reads, Prints}
+use Rattle.am_chain.specs.Inputs.{JudgesDomain}
 use Rattle.am_run.specs.declared.commands.sim.TheConstants.{MAX_PACKETS}
-use Rattle.am_run.specs.WordForms.{WritesNumber}
+use Rattle.am_chain.specs.WordForms.{WritesNumber}
 
 -- what it is asked: the domain file, the number that the world is made from, and how many packets are sent in it
 pub record Sim : Type 0 where

@@ -6,11 +6,11 @@ use Rattle.am_pcap.specs.declared.head.Head.{Head}
 use Rattle.am_domain.specs.Domains.{DomainValue}
 use Rattle.am_domain.specs.Values.{FlowValue}
 use Rattle.am_insert.specs.Stripping.{Stripped}
-use Rattle.am_run.specs.Chains.{Chain, Stream}
-use Rattle.am_run.specs.Chains.Chain.{Reads, Streams}
-use Rattle.am_run.specs.Inputs.{JudgesDomain}
+use Rattle.am_chain.specs.Chains.{Chain, Stream}
+use Rattle.am_chain.specs.Chains.Chain.{Reads, Streams}
+use Rattle.am_chain.specs.Inputs.{JudgesDomain}
 use Rattle.am_run.specs.Rewriting.{IsOfFlow, with_packet, Rewrite, IsRewritten}
-use Rattle.am_run.specs.WordForms.{DomainFile}
+use Rattle.am_chain.specs.WordForms.{DomainFile}
 
 -- the record is of a flow and has that flow's mark, which comes out: the first in its kind of header, with the flow's number,
 -- in a shape in which marks are put in; and its length on the wire has room for eight bytes fewer

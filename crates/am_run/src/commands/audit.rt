@@ -1,14 +1,15 @@
 //! The command `audit`: the loss table of a domain, from the captures of all its nodes.
-ghost use Rattle.std.specs.Prelude.{◌≡◌, ◌∷◌, [], None, map, replicate, length, string_bytes, IfSome, IfNone, IfErr, OnOk};
+ghost use Rattle.std.specs.Prelude.{◌≡◌, [], ◌∷◌, None, map, replicate, length, string_bytes, IfSome, IfNone, IfErr, OnOk};
 ghost use Rattle.am_control.specs.Plans.{IsPlanOf};
 ghost use Rattle.am_run.specs.Auditing.{StopsAmong, TakesFirst};
-ghost use Rattle.am_run.specs.Chains.{inputs, output, Performs};
+ghost use Rattle.am_chain.specs.Chains.{inputs, output, Performs};
 ghost use Rattle.am_run.specs.commands.Audit.{Audit, SaysAuditWords, audit_chain};
-ghost use Rattle.am_run.specs.Shown.{audit_shown, answer_of, stop_shown};
+ghost use Rattle.am_chain.specs.Shown.{answer_of, stop_shown};
+ghost use Rattle.am_run.specs.Asked.{audit_shown};
 
-use crate::answer::Stop;
-use crate::inputs::{take_cells, take_domain};
 use am_base::{OutError, Shelf, Sink};
+use am_chain::answer::Stop;
+use am_chain::inputs::{take_cells, take_domain};
 use am_control::{Control, ControlError, write_loss};
 use am_domain::{Domain, is_file_name};
 use std::alloc::Global;

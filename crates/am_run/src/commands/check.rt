@@ -1,15 +1,16 @@
 //! The command `check`: the summary of a domain, or why its file is refused.
-ghost use Rattle.std.specs.Prelude.{◌≡◌, ◌++◌, ◌+◌, ◌∷◌, [], map, OnOk, IfOk, IfSome, IfNone, flat_map, string_bytes};
+ghost use Rattle.std.specs.Prelude.{◌≡◌, ◌++◌, ◌+◌, [], ◌∷◌, map, OnOk, IfOk, IfSome, IfNone, flat_map, string_bytes};
 ghost use Rattle.am_clock.specs.Times.{half, guard};
-ghost use Rattle.am_run.specs.Chains.{inputs, output, Performs};
+ghost use Rattle.am_chain.specs.Chains.{inputs, output, Performs};
 ghost use Rattle.am_run.specs.Checking.{AddsPrefix, AddsFlow, AddsFlows};
 ghost use Rattle.am_run.specs.commands.Check.{Check, SaysCheckWords, IsSummary, head_lines, node_line, node_lines, link_line, name_of, check_chain};
-ghost use Rattle.am_run.specs.Shown.{check_shown, answer_of};
+ghost use Rattle.am_chain.specs.Shown.{answer_of};
+ghost use Rattle.am_run.specs.Asked.{check_shown};
 
-use crate::answer::Stop;
-use crate::inputs::take_domain;
 use am_addr::{Prefix, print};
 use am_base::{Shelf, Sink, put};
+use am_chain::answer::Stop;
+use am_chain::inputs::take_domain;
 use am_domain::{Domain, Edge, Flow, Node, is_file_name};
 use std::alloc::{AllocError, Global};
 use std::fmt::Write;

@@ -1,14 +1,15 @@
 //! The command `clusters`: the clusters of a domain's network, or why its file is refused.
-ghost use Rattle.std.specs.Prelude.{◌≡◌, ◌<◌, ◌++◌, ◌∷◌, [], map, OnOk, IfOk, IfSome, IfNone, string_bytes};
+ghost use Rattle.std.specs.Prelude.{◌≡◌, ◌<◌, ◌++◌, [], ◌∷◌, map, OnOk, IfOk, IfSome, IfNone, string_bytes};
 ghost use Rattle.am_graph.specs.Clusters.{count_of};
-ghost use Rattle.am_run.specs.Chains.{inputs, output, Performs};
+ghost use Rattle.am_chain.specs.Chains.{inputs, output, Performs};
 ghost use Rattle.am_run.specs.commands.Clusters.{Clusters, SaysClustersWords, IsClusterText, cluster_line, cluster_lines, number_words, name_words, clusters_chain};
-ghost use Rattle.am_run.specs.Shown.{clusters_shown, answer_of};
+ghost use Rattle.am_chain.specs.Shown.{answer_of};
+ghost use Rattle.am_run.specs.Asked.{clusters_shown};
 
-use crate::answer::Stop;
 use crate::commands::check::name_at;
-use crate::inputs::take_domain;
 use am_base::{Shelf, Sink, put};
+use am_chain::answer::Stop;
+use am_chain::inputs::take_domain;
 use am_domain::{Domain, Node, is_file_name};
 use am_graph::{Graph, find_clusters};
 use std::alloc::{AllocError, Global};

@@ -1,14 +1,15 @@
 //! The command `link`: what entered at one point, what left at the next, and what was lost between them, block by block.
-ghost use Rattle.std.specs.Prelude.{◌≡◌, ◌∷◌, [], map, string_bytes, IfSome, IfNone};
-ghost use Rattle.am_run.specs.Chains.{inputs, output, Performs};
+ghost use Rattle.std.specs.Prelude.{◌≡◌, [], ◌∷◌, map, string_bytes, IfSome, IfNone};
+ghost use Rattle.am_chain.specs.Chains.{inputs, output, Performs};
 ghost use Rattle.am_run.specs.commands.Link.{Link, SaysNumbers, SaysLinkWords, link_chain};
-ghost use Rattle.am_run.specs.Shown.{link_shown, answer_of};
+ghost use Rattle.am_chain.specs.Shown.{answer_of};
+ghost use Rattle.am_run.specs.Asked.{link_shown};
 
-use crate::answer::Stop;
-use crate::counting::Point;
-use crate::table::{Side, Table};
-use crate::words::number;
 use am_base::{Shelf, Sink, put};
+use am_chain::answer::Stop;
+use am_chain::counting::Point;
+use am_chain::table::{Side, Table};
+use am_chain::words::number;
 use am_clock::{MAX_TIME, Timing};
 use am_domain::{MAX_FLOW, is_file_name};
 use std::alloc::Global;

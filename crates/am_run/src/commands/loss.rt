@@ -2,16 +2,17 @@
 ghost use Rattle.std.specs.Prelude.{◌≡◌, ◌↔◌, ◌∷◌, List, None, All, IsTrue, map, replicate, length, string_bytes, IfSome, IfNone, IfErr, OnOk};
 ghost use Rattle.am_control.specs.Plans.{IsPlanOf};
 ghost use Rattle.am_report.specs.declared.read.Report.{Report};
-ghost use Rattle.am_run.specs.Chains.{Inputs, inputs, output, Performs};
+ghost use Rattle.am_chain.specs.Chains.{Inputs, inputs, output, Performs};
 ghost use Rattle.am_run.specs.Gathered.{StopsAmongReports, TakesReports};
-ghost use Rattle.am_run.specs.Gathering.{HasReports, node_without};
+ghost use Rattle.am_chain.specs.Gathering.{HasReports, node_without};
 ghost use Rattle.am_run.specs.commands.Loss.{Loss, SaysLossWords, loss_chain, loss_of_all};
-ghost use Rattle.am_run.specs.Shown.{loss_shown, answer_of, stop_shown};
+ghost use Rattle.am_chain.specs.Shown.{answer_of, stop_shown};
+ghost use Rattle.am_run.specs.Asked.{loss_shown};
 ghost use Rattle.am_domain.specs.Texts.{IsFileName};
 
-use crate::answer::Stop;
-use crate::inputs::{take_domain, take_report};
 use am_base::{OutError, Shelf, Sink};
+use am_chain::answer::Stop;
+use am_chain::inputs::{take_domain, take_report};
 use am_control::{Control, ControlError, write_loss};
 use am_domain::{Domain, is_file_name};
 use std::alloc::Global;

@@ -3,20 +3,20 @@ ghost use Rattle.std.specs.Prelude.{◌≡◌, ◌≤◌, ◌<◌, ◌^◌, leng
 ghost use Rattle.std.specs.Bool.{MatchBool};
 ghost use Rattle.am_clock.specs.Times.{IsMarkedIn};
 ghost use Rattle.am_pcap.specs.Shown.{packet_shown};
-ghost use Rattle.am_run.specs.Chains.{inputs, output, Performs};
+ghost use Rattle.am_chain.specs.Chains.{inputs, output, Performs};
 ghost use Rattle.am_insert.specs.Edits.{edited, IsEditOf};
 ghost use Rattle.am_run.specs.Marking.{AreNewest, PlansMark, MarksRecord};
-ghost use Rattle.am_run.specs.Printing.{Grows};
+ghost use Rattle.am_chain.specs.Printing.{Grows};
 ghost use Rattle.am_run.specs.Rewriting.{IsOfFlow};
 ghost use Rattle.am_run.specs.commands.Mark.{IsFullRecord, RefusesMarkAt, marked_records, mark_chain};
-ghost use Rattle.am_run.specs.Shown.{domain_file_shown, reason_shown, answer_of, OnRefused};
+ghost use Rattle.am_chain.specs.Shown.{domain_file_shown, reason_shown, answer_of, OnRefused};
 
-use crate::answer::{Reason, Stop, Unprinted};
-use crate::inputs::take_domain;
-use crate::printing::{Printing, print_capture};
 use crate::rewriting::{Matched, change_record, flow_of_record, keep_record};
-use crate::words::DomainFileWords;
 use am_base::{Shelf, Sink};
+use am_chain::answer::{Reason, Stop, Unprinted};
+use am_chain::inputs::take_domain;
+use am_chain::printing::{Printing, print_capture};
+use am_chain::words::DomainFileWords;
 use am_clock::{Timing, colour_of};
 use am_domain::Domain;
 use am_insert::{Edit, plan_insert};

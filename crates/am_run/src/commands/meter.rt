@@ -1,12 +1,13 @@
 //! The command `meter`: the report of one measurement point, from its capture.
-ghost use Rattle.std.specs.Prelude.{◌∷◌, [], map, string_bytes, IfSome, IfNone};
-ghost use Rattle.am_run.specs.Chains.{inputs, output, Performs};
+ghost use Rattle.std.specs.Prelude.{[], ◌∷◌, map, string_bytes, IfSome, IfNone};
+ghost use Rattle.am_chain.specs.Chains.{inputs, output, Performs};
 ghost use Rattle.am_run.specs.commands.Meter.{Meter, SaysMeterWords, meter_chain};
-ghost use Rattle.am_run.specs.Shown.{meter_shown, answer_of};
+ghost use Rattle.am_chain.specs.Shown.{answer_of};
+ghost use Rattle.am_run.specs.Asked.{meter_shown};
 
-use crate::answer::Stop;
-use crate::inputs::{take_cells, take_domain};
 use am_base::{OutError, Shelf, Sink};
+use am_chain::answer::Stop;
+use am_chain::inputs::{take_cells, take_domain};
 use am_domain::is_file_name;
 use am_report::write_report;
 use std::alloc::Global;

@@ -1,20 +1,21 @@
 //! The command `show`: what each record of a capture says, a line a record.
-ghost use Rattle.std.specs.Prelude.{◌≡◌, ◌+◌, ◌≤◌, ◌++◌, ◌∷◌, [], ⊤, List, length, map, string_bytes, OnOk, OnErr, IfSome, IfNone, flat_map, codes, decimal};
+ghost use Rattle.std.specs.Prelude.{◌≡◌, ◌+◌, ◌≤◌, ◌++◌, ◌∷◌, ⊤, List, [], length, map, string_bytes, OnOk, OnErr, IfSome, IfNone, flat_map, codes, decimal};
 ghost use Rattle.am_opts.specs.Marking.{bit};
 ghost use Rattle.am_ip6.specs.Chains.{Lent, HasHeaders};
 ghost use Rattle.am_ip6.specs.Shown.{ending_shown};
 ghost use Rattle.am_ip6.specs.Seen.{seen_shown};
 ghost use Rattle.am_pcap.specs.Shown.{packet_shown};
-ghost use Rattle.am_run.specs.Chains.{inputs, output, Performs};
+ghost use Rattle.am_chain.specs.Chains.{inputs, output, Performs};
 ghost use Rattle.am_run.specs.Lines.{IsLine, record_text, header_text, ending_text, seen_text};
-ghost use Rattle.am_run.specs.Printing.{Grows};
+ghost use Rattle.am_chain.specs.Printing.{Grows};
 ghost use Rattle.am_run.specs.Showing.{AddsPacket, mark_text, brief_text};
 ghost use Rattle.am_run.specs.commands.Show.{Show, SaysShowWords, record_lines, show_chain};
-ghost use Rattle.am_run.specs.Shown.{show_shown, answer_of};
+ghost use Rattle.am_chain.specs.Shown.{answer_of};
+ghost use Rattle.am_run.specs.Asked.{show_shown};
 
-use crate::answer::{Stop, Unprinted};
-use crate::printing::{Printing, print_capture};
 use am_base::{Shelf, Sink};
+use am_chain::answer::{Stop, Unprinted};
+use am_chain::printing::{Printing, print_capture};
 use am_domain::is_file_name;
 use am_ip6::{Brief, Ending, Found, Place, Walk, find_mark, walk_ending};
 use am_opts::Mark;

@@ -1,13 +1,14 @@
 //! The command `sim`: what a made world drops in a domain's network, and what is reported of it.
-ghost use Rattle.std.specs.Prelude.{◌∷◌, [], map, string_bytes, IfSome, IfNone};
-ghost use Rattle.am_run.specs.Chains.{inputs, output, Performs};
+ghost use Rattle.std.specs.Prelude.{[], ◌∷◌, map, string_bytes, IfSome, IfNone};
+ghost use Rattle.am_chain.specs.Chains.{inputs, output, Performs};
 ghost use Rattle.am_run.specs.commands.Sim.{Sim, SaysSimWords, sim_chain};
-ghost use Rattle.am_run.specs.Shown.{sim_shown, answer_of};
+ghost use Rattle.am_chain.specs.Shown.{answer_of};
+ghost use Rattle.am_run.specs.Asked.{sim_shown};
 
-use crate::answer::Stop;
-use crate::inputs::take_domain;
-use crate::words::number;
 use am_base::{OutError, Shelf, Sink};
+use am_chain::answer::Stop;
+use am_chain::inputs::take_domain;
+use am_chain::words::number;
 use am_domain::is_file_name;
 use am_meter::NoGate;
 use am_sim::{simulate, write_simulated};

@@ -3,17 +3,17 @@ ghost use Rattle.std.specs.Prelude.{◌≡◌, ◌≤◌, ◌+◌, ◌-◌, ◌+
 ghost use Rattle.am_pcap.specs.Shown.{packet_shown};
 ghost use Rattle.am_pcap.specs.Spelling.{record_bytes};
 ghost use Rattle.am_insert.specs.Edits.{edited, IsEditOf};
-ghost use Rattle.am_run.specs.Chains.{inputs, output, Performs};
+ghost use Rattle.am_chain.specs.Chains.{inputs, output, Performs};
 ghost use Rattle.am_run.specs.Rewriting.{with_packet};
 ghost use Rattle.am_run.specs.commands.Strip.{HasOwnMark, HasNoOwnMark, stripped_records, strip_chain};
-ghost use Rattle.am_run.specs.Shown.{domain_file_shown, answer_of};
+ghost use Rattle.am_chain.specs.Shown.{domain_file_shown, answer_of};
 
-use crate::answer::{Stop, Unprinted};
-use crate::inputs::take_domain;
-use crate::printing::{Printing, print_capture};
 use crate::rewriting::{Matched, change_record, flow_of_record, keep_record};
-use crate::words::DomainFileWords;
 use am_base::{Shelf, Sink};
+use am_chain::answer::{Stop, Unprinted};
+use am_chain::inputs::take_domain;
+use am_chain::printing::{Printing, print_capture};
+use am_chain::words::DomainFileWords;
 use am_domain::Domain;
 use am_insert::{Edit, plan_strip};
 use am_pcap::{Head, MAX_CAPTURED, Record};

@@ -1,8 +1,9 @@
 -- Each command performs its own chain.
 use Rattle.std.proofs.Common.{sym, subst}
-use Rattle.am_run.specs.Chains.{inputs, output, Performs}
+use Rattle.am_chain.specs.Chains.{inputs, output, Performs}
 use Rattle.am_run.specs.Forms.{chain_of}
-use Rattle.am_run.specs.Shown.{command_shown, answer_of}
+use Rattle.am_chain.specs.Shown.{answer_of}
+use Rattle.am_run.specs.Asked.{command_shown}
 use Rattle.am_run.proofs.commands.perform.Goals as goal
 
 pub returns-in-Link : goal.returns-in-Link

@@ -1,5 +1,5 @@
 use Rattle.std.proofs.Common.{inr}
-use Rattle.am_run.specs.Shown.{command_shown}
+use Rattle.am_run.specs.Asked.{command_shown}
 use Rattle.am_run.proofs.run.obey.Goals as goal
 
 pub returns-in-Some : goal.returns-in-Some

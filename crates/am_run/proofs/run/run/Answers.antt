@@ -1,9 +1,9 @@
 -- The answer of a run, and what the laws of the inputs say of its status.
 use Rattle.std.proofs.Common.{refl, inl}
-use Rattle.am_run.specs.Answers.Ending.{Done}
-use Rattle.am_run.specs.Answers.Answer.{Ended}
-use Rattle.am_run.specs.Chains.{inputs, output}
-use Rattle.am_run.specs.Shown.{stop_shown}
+use Rattle.am_chain.specs.Answers.Ending.{Done}
+use Rattle.am_chain.specs.Answers.Answer.{Ended}
+use Rattle.am_chain.specs.Chains.{inputs, output}
+use Rattle.am_chain.specs.Shown.{stop_shown}
 use Rattle.am_run.proofs.ChainLemmas.{nothing}
 use Rattle.am_run.proofs.HeadlineLemmas.{tells-each}
 use Rattle.am_run.proofs.LinkHeadlineLemmas.{tells-each-link}

@@ -1,10 +1,10 @@
 -- The line that was written is that of the stop, or says that memory ran out.
 use Rattle.std.proofs.Common.{refl, sym, ap, subst, ◌∙◌, inl}
-use Rattle.am_run.specs.Answers.{line, status}
-use Rattle.am_run.specs.Answers.Answer.{NoCommand, WriteFault, NoMemory}
-use Rattle.am_run.specs.Chains.{output}
+use Rattle.am_chain.specs.Answers.{line, status}
+use Rattle.am_chain.specs.Answers.Answer.{NoCommand, WriteFault, NoMemory}
+use Rattle.am_chain.specs.Chains.{output}
 use Rattle.am_run.specs.Runs.{TellsLine}
-use Rattle.am_run.specs.Shown.{stop_shown}
+use Rattle.am_chain.specs.Shown.{stop_shown}
 use Rattle.am_run.proofs.run.tell.Goals as goal
 use Rattle.am_run.proofs.run.tell.Goals.{in-NoCommand, in-WriteFault, in-NoMemory, in-Missing+in-Ok}
 

@@ -2,9 +2,9 @@
 use Rattle.std.proofs.Common.{refl, subst, inr, []}
 use Rattle.am_control.specs.Texts.{loss_text}
 use Rattle.am_domain.specs.Domains.{DomainValue}
-use Rattle.am_run.specs.Answers.Answer.{Ended, WriteFault, NoMemory}
-use Rattle.am_run.specs.Answers.Ending.{Done}
-use Rattle.am_run.specs.Chains.{inputs, output, Performs}
+use Rattle.am_chain.specs.Answers.Answer.{Ended, WriteFault, NoMemory}
+use Rattle.am_chain.specs.Answers.Ending.{Done}
+use Rattle.am_chain.specs.Chains.{inputs, output, Performs}
 use Rattle.am_run.specs.commands.Audit.{audit_from}
 use Rattle.am_run.proofs.AuditLemmas.{none-missing, table-of-all, all-taken}
 use Rattle.am_run.proofs.commands.audit.audit.Goals as goal

@@ -1,6 +1,6 @@
 -- The captures of the nodes so far, and one more.
 use Rattle.std.proofs.Common.{arith, refl, ap, length}
-use Rattle.am_run.specs.Chains.{inputs}
+use Rattle.am_chain.specs.Chains.{inputs}
 use Rattle.am_run.proofs.AuditLemmas.{takes-none, takes-one}
 use Rattle.am_run.proofs.commands.audit.take_all.Goals as goal
 

@@ -1,5 +1,5 @@
 use Rattle.am_run.specs.Auditing.{TakesFirst}
-use Rattle.am_run.specs.Chains.{inputs}
+use Rattle.am_chain.specs.Chains.{inputs}
 use Rattle.am_run.proofs.commands.audit.take_all.Given as goal
 
 -- the captures of the nodes so far were taken

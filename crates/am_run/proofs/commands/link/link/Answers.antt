@@ -1,9 +1,9 @@
 -- Both captures were counted, and their table is what is printed.
 use Rattle.std.proofs.Common.{refl, inr, ◌∙◌}
-use Rattle.am_run.specs.Chains.{inputs}
-use Rattle.am_run.specs.Shown.{link_shown}
-use Rattle.am_run.specs.Tallies.{tally, rows_of}
-use Rattle.am_run.specs.declared.table.Side.TheVariants.{Entered, Left}
+use Rattle.am_chain.specs.Chains.{inputs}
+use Rattle.am_run.specs.Asked.{link_shown}
+use Rattle.am_chain.specs.Tallies.{tally, rows_of}
+use Rattle.am_chain.specs.declared.table.Side.TheVariants.{Entered, Left}
 use Rattle.am_run.proofs.LinkLemmas.{link-table}
 use Rattle.am_run.proofs.commands.link.link.Goals as goal
 

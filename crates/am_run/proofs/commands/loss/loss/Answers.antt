@@ -1,10 +1,10 @@
 -- The domain is taken, then all reports, and the table is printed or a node named.
-use Rattle.std.proofs.Common.{subst, sym, inr, [], length, map, string_bytes}
+use Rattle.std.proofs.Common.{subst, sym, inr, length, map, string_bytes, []}
 use Rattle.std.proofs.lemmas.List.{length-map}
 use Rattle.am_domain.specs.Domains.{DomainValue}
-use Rattle.am_run.specs.Chains.{inputs, output, Performs}
+use Rattle.am_chain.specs.Chains.{inputs, output, Performs}
 use Rattle.am_run.specs.Gathered.{TakesReports}
-use Rattle.am_run.specs.Shown.{answer_of}
+use Rattle.am_chain.specs.Shown.{answer_of}
 use Rattle.am_run.specs.commands.Loss.{loss_from}
 use Rattle.am_run.proofs.GatherLemmas.{all-reported, has-long}
 use Rattle.am_run.proofs.commands.loss.loss.Goals as goal

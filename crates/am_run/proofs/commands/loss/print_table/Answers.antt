@@ -5,11 +5,11 @@ use Rattle.am_control.specs.Texts.{loss_text}
 use Rattle.am_domain.specs.Lists.{IsFirstPlace}
 use Rattle.am_domain.specs.Values.{NodeValue, no_node}
 use Rattle.am_report.specs.Rows.{node_name}
-use Rattle.am_run.specs.Answers.Answer.{Ended, WriteFault, NoMemory}
-use Rattle.am_run.specs.Answers.Ending.{Done, Refused}
-use Rattle.am_run.specs.Answers.Reason.{NoReport}
-use Rattle.am_run.specs.Chains.{output}
-use Rattle.am_run.specs.Shown.{IsAnswered, stop_shown}
+use Rattle.am_chain.specs.Answers.Answer.{Ended, WriteFault, NoMemory}
+use Rattle.am_chain.specs.Answers.Ending.{Done, Refused}
+use Rattle.am_chain.specs.Answers.Reason.{NoReport}
+use Rattle.am_chain.specs.Chains.{output}
+use Rattle.am_chain.specs.Shown.{IsAnswered, stop_shown}
 use Rattle.am_run.proofs.GatherLemmas.{table-of-reports, printed-whole, refused-first}
 use Rattle.am_run.proofs.commands.loss.print_table.Goals as goal
 

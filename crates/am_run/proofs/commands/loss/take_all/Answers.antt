@@ -1,9 +1,9 @@
 -- The reports of the files so far, and one more.
 use Rattle.std.proofs.Common.{arith, Ok, subst, sym, ◌≡◌, ◌<◌, List, [], ℕ, length, get_or, map, string_bytes}
 use Rattle.std.proofs.lemmas.List.{length-map}
-use Rattle.am_run.specs.Chains.{inputs, StopsHere, Judged}
-use Rattle.am_run.specs.Inputs.{JudgesReport}
-use Rattle.am_run.specs.Shown.{stop_shown}
+use Rattle.am_chain.specs.Chains.{inputs, StopsHere, Judged}
+use Rattle.am_chain.specs.Inputs.{JudgesReport}
+use Rattle.am_chain.specs.Shown.{stop_shown}
 use Rattle.am_run.proofs.GatherLemmas.{takes-no-report, takes-report, stops-at-report, has-long}
 use Rattle.am_run.proofs.WordLemmas.{word-at}
 use Rattle.am_run.proofs.commands.loss.take_all.Goals as goal

@@ -1,5 +1,5 @@
 use Rattle.std.proofs.Common.{map, string_bytes}
-use Rattle.am_run.specs.Chains.{inputs}
+use Rattle.am_chain.specs.Chains.{inputs}
 use Rattle.am_run.specs.Gathered.{TakesReports}
 use Rattle.am_run.proofs.commands.loss.take_all.Given as goal
 

@@ -1,9 +1,9 @@
 -- The domain was taken, and the capture printed by it.
 use Rattle.std.proofs.Common.{inr, subst}
 use Rattle.am_domain.specs.Domains.{DomainValue}
-use Rattle.am_run.specs.Chains.{inputs, output, StreamsSo}
+use Rattle.am_chain.specs.Chains.{inputs, output, StreamsSo}
 use Rattle.am_run.specs.commands.Mark.{marked_records}
-use Rattle.am_run.specs.Shown.{answer_of}
+use Rattle.am_chain.specs.Shown.{answer_of}
 use Rattle.am_run.proofs.commands.mark.mark.Goals as goal
 
 pub returns : goal.returns

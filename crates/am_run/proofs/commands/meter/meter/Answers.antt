@@ -2,11 +2,11 @@
 use Rattle.std.proofs.Common.{refl, subst, inl, inr}
 use Rattle.am_domain.specs.Domains.{DomainValue}
 use Rattle.am_report.specs.Rows.{report_text}
-use Rattle.am_run.specs.Answers.Answer.{Ended, WriteFault}
-use Rattle.am_run.specs.Answers.Ending.{Done}
-use Rattle.am_run.specs.Chains.{inputs, output, Performs}
+use Rattle.am_chain.specs.Answers.Answer.{Ended, WriteFault}
+use Rattle.am_chain.specs.Answers.Ending.{Done}
+use Rattle.am_chain.specs.Chains.{inputs, output, Performs}
 use Rattle.am_run.specs.NodeWords.{at_node, node_named}
-use Rattle.am_run.specs.Shown.{stop_shown}
+use Rattle.am_chain.specs.Shown.{stop_shown}
 use Rattle.am_run.specs.commands.Meter.{report_chain}
 use Rattle.am_run.proofs.NodeLemmas.{node-asked, nobody-asked}
 use Rattle.am_run.proofs.commands.meter.meter.Goals as goal

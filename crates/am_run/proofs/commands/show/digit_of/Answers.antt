@@ -1,5 +1,5 @@
 -- A bit is a number of one digit.
-use Rattle.std.proofs.Common.{◌≡◌, ◌∷◌, [], ◌∙◌, ap, arith, Bool, true, false, decimal}
+use Rattle.std.proofs.Common.{◌≡◌, [], ◌∷◌, ◌∙◌, ap, arith, Bool, true, false, decimal}
 use Rattle.std.proofs.lemmas.Fmt.{decimal_digit}
 use Rattle.am_opts.specs.Marking.{bit}
 use Rattle.am_run.proofs.commands.show.digit_of.Goals as goal

@@ -5,8 +5,7 @@ use Rattle.am_ip6.specs.Shown.{ending_shown}
 use Rattle.am_ip6.specs.Seen.{seen_shown}
 use Rattle.am_pcap.specs.Shown.{packet_shown}
 use Rattle.am_run.specs.Lines.{record_text, header_text, ending_text, seen_text}
-use Rattle.am_run.proofs.TableLemmas.{on_ok}
-use Rattle.am_run.proofs.ShowSteps.{walk_pieces}
+use Rattle.am_run.proofs.ShowSteps.{on-ok, walk_pieces}
 use Rattle.am_run.proofs.commands.show.push_walk.Goals as goal
 
 pub returns : goal.returns
@@ -15,7 +14,7 @@ returns c =
     let has = c.in_ok-push_headers.ensures.1 in
     let ended = ending_shown c.walk_ending.result in
     let ends = c.walk_ending.ensures hs has in
-    on_ok c.push_end.result
+    on-ok c.push_end.result
     (λ e. record {
       held = _;
       text = record {

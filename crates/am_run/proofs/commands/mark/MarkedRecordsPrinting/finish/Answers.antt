@@ -1,7 +1,7 @@
 -- Nothing stands behind all records.
-use Rattle.std.proofs.Common.{sym, [], append-nil}
+use Rattle.std.proofs.Common.{sym, append-nil, []}
 use Rattle.am_run.specs.commands.Mark.{marked_records}
-use Rattle.am_run.proofs.StreamLemmas.{all-behind}
+use Rattle.am_run.proofs.ChainLemmas.{all-behind}
 use Rattle.am_run.proofs.commands.mark.MarkedRecordsPrinting.finish.Goals as goal
 
 pub returns-clause-rest : goal.returns-clause-rest

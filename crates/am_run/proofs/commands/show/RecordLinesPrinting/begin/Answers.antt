@@ -1,5 +1,5 @@
 -- Nothing stands before all lines.
-use Rattle.std.proofs.Common.{[], refl, sym}
+use Rattle.std.proofs.Common.{refl, sym, []}
 use Rattle.std.proofs.lemmas.List.{append-nil}
 use Rattle.am_run.proofs.commands.show.RecordLinesPrinting.begin.Goals as goal
 

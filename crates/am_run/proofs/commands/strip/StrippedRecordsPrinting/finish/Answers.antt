@@ -1,7 +1,7 @@
 -- Nothing stands behind all records.
-use Rattle.std.proofs.Common.{sym, [], append-nil}
+use Rattle.std.proofs.Common.{sym, append-nil, []}
 use Rattle.am_run.specs.commands.Strip.{stripped_records}
-use Rattle.am_run.proofs.StreamLemmas.{all-behind}
+use Rattle.am_run.proofs.ChainLemmas.{all-behind}
 use Rattle.am_run.proofs.commands.strip.StrippedRecordsPrinting.finish.Goals as goal
 
 pub returns-clause-rest : goal.returns-clause-rest

@@ -1,0 +1,6 @@
+pub mod FrontLemmas
+pub mod InputLemmas
+pub mod ReportLemmas
+pub mod StreamLemmas
+pub mod TableLemmas
+pub mod CountLemmas

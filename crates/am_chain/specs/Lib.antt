@@ -1,0 +1,11 @@
+pub mod Answers
+pub mod Chains
+pub mod WordForms
+pub mod Gathering
+pub mod Inputs
+pub mod Tables
+pub mod Tallies
+pub mod Counting
+pub mod Printing
+pub mod NodeCells
+pub mod Shown
