@@ -1,9 +1,10 @@
 //! Domain files: what is read from one, and the line that refuses one.
 
-use crate::samples::{TWO, domain_of};
+use crate::samples::domain_of;
 use am_addr::parse;
 use am_domain::{DomainError, Edge, Part, is_file_name, read_domain};
 use am_ip6::Place;
+use am_samples::TWO;
 use std::test::Fail;
 
 // Threads may share such a value, and one may hand it to another.

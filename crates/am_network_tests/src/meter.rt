@@ -2,13 +2,14 @@
 
 ghost use Rattle.am_meter.specs.Metering.{HasDomainShape};
 
-use crate::samples::{PACKET, TWO, Written, captured, domain_of};
+use crate::samples::{PACKET, Written, captured, domain_of};
 use am_base::MemShelf;
 use am_cells::Cells;
 use am_domain::Domain;
 use am_ip6::Place;
 use am_meter::{Batch, CountError, MeterError, NoGate, Stream, count_parallel, meter_file};
 use am_pcap::{CapError, FileError, LinkKind};
+use am_samples::TWO;
 use std::alloc::Global;
 use std::test::Fail;
 

@@ -1,10 +1,11 @@
 //! A report against a text that was written by hand, and the lines that refuse other texts.
 
-use crate::samples::{REPORT_HEAD, TWO, domain_of};
+use crate::samples::{REPORT_HEAD, domain_of};
 use am_base::MemSink;
 use am_cells::Row;
 use am_domain::Domain;
 use am_report::{MAX_REPORT, Refusal, read_report, write_head, write_report, write_row};
+use am_samples::TWO;
 use std::alloc::Global;
 use std::test::Fail;
 

@@ -5,16 +5,6 @@ use std::alloc::{AllocError, Global};
 use std::fmt::Write;
 use std::test::Fail;
 
-/// Two nodes and a link. The blocks 0, 1 and 2 of 10 s are reported.
-pub(crate) const TWO: &str =
-    "timing = { block_ns = 10000000000, skew_ns = 1000000, delay_min_ns = 0, delay_max_ns = 500000000 }
-marking = { place = \"hop-by-hop\" }
-flow = [{ name = \"voice\", id = 74565, source = \"2001:db8:1::/48\", destination = \"2001:db8:2::/48\" }]
-node = [{ name = \"a\", capture = \"u.pcap\", from_ns = 0, until_ns = 40000000000 },
-    { name = \"b\", capture = \"v.pcap\", from_ns = 0, until_ns = 40000000000 }]
-link = [{ from = \"a\", to = \"b\" }]
-";
-
 /// The domain of a text.
 pub(crate) fn domain_of(alloc: Global, text: &str) -> Result<Domain, Fail> {
     if text.len() > MAX_DOMAIN as usize {

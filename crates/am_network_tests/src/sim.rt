@@ -1,8 +1,9 @@
 //! What is written of a world from a number, whose lost packets another program counted.
 
-use crate::samples::{TWO, domain_of};
+use crate::samples::domain_of;
 use am_base::MemSink;
 use am_meter::NoGate;
+use am_samples::TWO;
 use am_sim::{simulate, write_simulated};
 use std::test::Fail;
 

@@ -4,9 +4,10 @@
 ghost use Rattle.std.specs.Prelude.{All, IsTrue};
 ghost use Rattle.am_world.specs.Trips.{NamesLink};
 
-use crate::samples::{TWO, Written, captured, domain_of};
+use crate::samples::{Written, captured, domain_of};
 use am_domain::{Domain, Edge};
 use am_graph::{Graph, find_clusters};
+use am_samples::TWO;
 use am_world::{Breach, Event, Rule, World, capture_of, check_world, generate, true_loss};
 use std::alloc::Global;
 use std::test::Fail;

@@ -1,12 +1,13 @@
 //! Captures by hand from the format: their four forms, what is refused, whole readings over a shelf, and frames.
 ghost use Rattle.std.specs.Prelude.{◌≡◌, IfOk, IsTrue, false};
 
-use crate::samples::{HEAD, capture, shelf_of};
+use crate::samples::{capture, shelf_of};
 use am_base::MemShelf;
 use am_pcap::LinkKind::{Ethernet, RawIp, RawIp6};
 use am_pcap::{
     CapError, Capture, Decoder, FileError, Form, Frame, file_head, packet_of, record_head,
 };
+use am_samples::HEAD;
 use std::alloc::{AllocError, Global};
 use std::test::Fail;
 

@@ -1,5 +1,6 @@
 //! The packets and the capture that the tests change and read, by hand from the formats.
 use am_base::MemShelf;
+use am_samples::HEAD;
 use std::alloc::{AllocError, Global};
 
 /// From 2001:db8:1::1 to 2001:db8:2::1, with nothing behind it: version 6, traffic class 0xa5, flow label 0xbcdef, no
@@ -22,10 +23,6 @@ pub fn packet(alloc: Global, payload: u16, next: u8, behind: &[u8]) -> Result<Ve
     bytes.extend_from_slice(behind)?;
     Ok(bytes)
 }
-
-/// The file header of a capture of raw IP packets: microseconds, lowest byte first, version 2.4, snapshot length 262,144.
-pub const HEAD: &[u8] =
-    b"\xd4\xc3\xb2\xa1\x02\x00\x04\x00\x00\x00\x00\x00\x00\x00\x00\x00\x00\x00\x04\x00\x65\x00\x00\x00";
 
 /// A capture of three packets of 48 bytes, of the seconds 1, 2 and 11.
 pub fn capture(alloc: Global) -> Result<Vec<u8>, AllocError> {

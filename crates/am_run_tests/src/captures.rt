@@ -1,4 +1,5 @@
 // Captures of marked packets, byte by byte.
+use am_samples::HEAD;
 use std::alloc::{AllocError, Global};
 
 // A packet that was seen: seconds, microseconds, and the four bytes of its mark.
@@ -30,15 +31,6 @@ pub const DOWN: [Seen; 5] = [
     (11, 500, BOTH),
     (13, 500, LOSS),
     (21, 500, DELAY),
-];
-
-// The file header of a capture of microseconds, lowest byte first, of raw IP packets.
-const HEAD: [u8; 24] = [
-    0xd4, 0xc3, 0xb2, 0xa1, // microseconds, lowest byte first
-    0x02, 0x00, 0x04, 0x00, // version 2.4
-    0x00, 0x00, 0x00, 0x00, 0x00, 0x00, 0x00, 0x00, // zone and accuracy
-    0x00, 0x00, 0x04, 0x00, // snapshot length: 262,144
-    0x65, 0x00, 0x00, 0x00, // raw IP
 ];
 
 // A marked packet up to its mark.

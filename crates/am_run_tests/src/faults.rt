@@ -2,7 +2,8 @@
 // the front is what was printed. A file is read to its end, which a read of its own finds: each of these files takes two.
 use crate::captures::{DOWN, UP, capture, front};
 use crate::runs::Fails::{Lines, Open, Read, Room, Write};
-use crate::runs::{Fails, Files, TWO, files_of, run_over, wants};
+use crate::runs::{Fails, Files, files_of, run_over, wants};
+use am_samples::TWO;
 use std::alloc::{AllocError, Global};
 use std::test::Fail;
 

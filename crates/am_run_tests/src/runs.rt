@@ -4,18 +4,6 @@ use am_run::run::run;
 use std::alloc::{AllocError, Global};
 use std::process::Abort;
 
-// Two points and the link between them.
-pub const TWO: &str = "
-timing = { block_ns = 10000000000, skew_ns = 1000000, delay_min_ns = 0, delay_max_ns = 500000000 }
-marking = { place = \"hop-by-hop\" }
-flow = [{ name = \"voice\", id = 74565, source = \"2001:db8:1::/48\", destination = \"2001:db8:2::/48\" }]
-node = [
-  { name = \"a\", capture = \"u.pcap\", from_ns = 0, until_ns = 40000000000 },
-  { name = \"b\", capture = \"v.pcap\", from_ns = 0, until_ns = 40000000000 },
-]
-link = [{ from = \"a\", to = \"b\" }]
-";
-
 // What fails in a run: the open, the read or the write of this number, counted from 1, or a stream that is full.
 #[derive(Clone, Copy, Debug)]
 pub enum Fails {

@@ -1,6 +1,7 @@
 // `audit` over the captures that a world gives.
-use crate::runs::{Fails, TWO, files_of, run_over, wants};
+use crate::runs::{Fails, files_of, run_over, wants};
 use am_domain::{Domain, read_domain};
+use am_samples::TWO;
 use am_world::{Event, World, capture_of, check_world};
 use std::alloc::{AllocError, Global};
 use std::test::Fail;
