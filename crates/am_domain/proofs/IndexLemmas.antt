@@ -1,5 +1,6 @@
 -- The first flow of each pair of prefixes, and the first that holds a packet's addresses.
 use Rattle.std.proofs.Common.{arith, refl, sym, subst, ap, cond, ⊎_elim, ◌∙◌, ◌≡◌, ◌≢◌, ℕ, ◌+◌, ◌<◌, ◌≤◌, Bool, true, false, ◌&&◌, min, List, length, get_or, Contains, Option, Some, None, IfSome, IfNone, MatchOption, eq-eqb}
+use Rattle.std.proofs.Math.Dec.{eqb}
 use Rattle.std.proofs.lemmas.Bool.{cases_lt, cases_Bool, eqb-true}
 use Rattle.std.proofs.lemmas.List.{get_or_default}
 use Rattle.std.proofs.lemmas.Slice.Eq.{bytes_eq-Decides}
@@ -27,14 +28,17 @@ same_lengths a b e f = grind arith
 same_parts : (a b : Ends) → a.lengths ≡ b.lengths → a.source ≡ b.source → a.destination ≡ b.destination → a ≡ b
 same_parts a b e f g = grind arith
 
+-- the test of two pairs of lengths says whether they are the same
+pub lengths-true : (a b : Lengths) → (eqb a.source b.source && eqb a.destination b.destination) ≡ true → a ≡ b
+lengths-true a b e = let parts = both _ _ e in same_lengths a b (eqb-true _ _ parts.0) (eqb-true _ _ parts.1)
+
 -- the test says whether two are the same
 pub same-true : (a b : Ends) → same_ends a b ≡ true → a ≡ b
 same-true a b e =
     let parts = both _ _ e in
-    let sizes = both _ _ parts.0 in
     let bytes = both _ _ parts.1 in
     same_parts a b
-    (same_lengths a.lengths b.lengths (eqb-true _ _ sizes.0) (eqb-true _ _ sizes.1))
+    (lengths-true a.lengths b.lengths parts.0)
     ((bytes_eq-Decides a.source b.source).0 bytes.0) ((bytes_eq-Decides a.destination b.destination).0 bytes.1)
 
 pub same-itself : (a : Ends) → same_ends a a ≡ true
