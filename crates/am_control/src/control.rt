@@ -3,7 +3,8 @@
 ghost use Rattle.std.specs.Prelude.{◌≡◌, ◌<◌, None, replicate, length, IfOk, IfErr, OnOk, OnErr};
 ghost use Rattle.am_cells.specs.CellTables.{HasShape};
 ghost use Rattle.am_cells.specs.Counts.{IsLawfulCell};
-ghost use Rattle.am_graph.specs.Clusters.{count_of};
+ghost use Rattle.am_graph.specs.Clusters.{AreClusters, ArePartedAt, count_of};
+ghost use Rattle.am_graph.specs.Graphs.{graph_of};
 ghost use Rattle.am_control.specs.Controls.{Accepts, HasPlanShape, HasRow, IsComplete, IsControl, IsMeasuredBy, IsScope, IsSide, RefusesReport, TellsMissing, measured_of};
 ghost use Rattle.am_control.specs.Plans.{IsPlanOf, entering, leaving};
 ghost use Rattle.am_control.specs.Rows.{FitsRow, node_cell, side_cell};
@@ -69,15 +70,11 @@ impl Control {
         ensures plan { IfOk result (λ c. IsPlanOf domain.now c.plan) }
         ensures none { IfOk result (λ c. c.reports ≡ replicate (length domain.now.nodes) None) }
     {
-        let graph = Graph::of(alloc, domain)?;
-        let clusters = find_clusters(alloc, &graph)?;
+        let clusters = clusters_of(alloc, domain)?;
         let nodes = domain.nodes().len();
         let entries = entries_of(alloc, domain.edges(), nodes as u32)?;
         let exits = exits_of(alloc, domain.edges(), nodes as u32)?;
-        let mut reports = Vec::with_capacity(alloc, nodes)?;
-        for _node in 0..nodes {
-            reports.push(None)?;
-        }
+        let reports = no_reports(alloc, nodes)?;
         Ok(Control {
             alloc,
             clusters,
@@ -222,6 +219,26 @@ impl Control {
             None => unreachable!(),
         }
     }
+}
+
+// The clusters of a domain's network.
+fn clusters_of(alloc: Global, domain: &Domain) -> Result<Clusters, AllocError>
+    ensures clusters { IfOk result (λ c. AreClusters (graph_of domain.now) c) }
+    ensures parted { IfOk result (λ c. ArePartedAt (graph_of domain.now) c) }
+{
+    let graph = Graph::of(alloc, domain)?;
+    find_clusters(alloc, &graph)
+}
+
+// No report of each of so many nodes.
+fn no_reports(alloc: Global, nodes: usize) -> Result<Vec<Option<Cells>>, AllocError>
+    ensures { IfOk result (λ v. v.items ≡ replicate nodes None) }
+{
+    let mut reports = Vec::with_capacity(alloc, nodes)?;
+    for _node in 0..nodes {
+        reports.push(None)?;
+    }
+    Ok(reports)
 }
 
 // The same cells again.

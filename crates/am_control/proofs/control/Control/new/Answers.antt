@@ -1,4 +1,4 @@
-use Rattle.std.proofs.Common.{◌≡◌, ◌∙◌, None, length, replicate, rules, ap, arith}
+use Rattle.std.proofs.Common.{◌∙◌, None, length, replicate, rules, ap}
 use Rattle.am_control.specs.Plans.{LossPlan, IsPlanOf}
 use Rattle.am_control.proofs.ReportLemmas.{new-control}
 use Rattle.am_control.proofs.control.Control.new.Goals as goal
@@ -14,6 +14,5 @@ invariant_of-result c =
       end = c.end.result;
     } in
     let of : IsPlanOf c.args.domain.now plan = search rules in
-    let nodes : c.loop-node._node ≡ length c.args.domain.now.nodes = omega (arith, ap length c.nodes-nodes.ensures.value) in
-    new-control c.args.domain.now plan c.loop-node.reports.items c.end.ensures.lawful of
-    (c.loop-node.invariant ∙ ap (λ n. replicate n None) nodes)
+    new-control c.args.domain.now plan c.in_ok-reports.reports.items c.end.ensures.lawful of
+    (c.in_ok-reports.ensures ∙ ap (λ n. replicate n None) (ap length c.nodes-nodes.ensures.value))
