@@ -11,19 +11,22 @@ use Rattle.am_control.specs.declared.error.ControlError.{ControlError}
 use Rattle.am_control.specs.declared.error.ControlError.TheVariants.{ReportTwice as SecondReport, MissingReport, Memory}
 use Rattle.am_domain.specs.Domains.{DomainValue, IsLawful}
 use Rattle.am_domain.specs.Network.{IsNumberOf}
-use Rattle.am_report.specs.Reports.{IsReportOf}
+use Rattle.am_report.specs.Reports.{IsReportOf, TellsReportRefusal}
+use Rattle.am_report.specs.ReportTexts.{refused_flow}
 use Rattle.am_report.specs.Rows.{RowValue, node_name}
+use Rattle.am_report.specs.declared.error.ReportError.{ReportError}
+use Rattle.am_report.specs.declared.error.ReportError.TheVariants as report
 use Rattle.am_report.specs.declared.read.Report.{Report}
 use Rattle.am_report.specs.declared.read.TheConstants.{MAX_REPORT}
 use Rattle.am_chain.specs.Answers.{Answer}
 use Rattle.am_chain.specs.Answers.Answer.{Ended}
 use Rattle.am_chain.specs.Answers.Ending.{Refused}
-use Rattle.am_chain.specs.Answers.Reason.{ReportTwice}
+use Rattle.am_chain.specs.Answers.Reason.{BadReport, ReportTwice}
 use Rattle.am_base.specs.Files.{HasFile}
 use Rattle.am_chain.specs.Chains.{Inputs, StopsHere}
 use Rattle.am_chain.specs.Gathering.{cells_of, cells_of_each, HasReports}
 use Rattle.am_chain.specs.Inputs.{JudgesReport}
-use Rattle.am_chain.specs.Shown.{IsAnswered}
+use Rattle.am_chain.specs.Shown.{IsAnswered, report_answer}
 use Rattle.am_chain.proofs.InputLemmas.{judged-of, stop-answer}
 
 -- the cells of a node once there is one more report: those of that report, where it is of the node
@@ -124,3 +127,20 @@ second-stops before after name bytes d control taken r e node answer there short
           stop-answer before after name (JudgesReport d taken) (Ended (Refused (Some name) (ReportTwice node))) answer
           (refl, judged-of before.told name (JudgesReport d taken) bytes (Err (ReportTwice node)) there (inr (inr (r, ap ReportTwice named, short, read, some)))) answers
     ]
+
+-- bytes that aren't read as a report are a stop at their file
+report-refused :
+    (before after : Inputs) (name bytes : List ℕ) (d : DomainValue) (taken : List Report) (e : ReportError)
+    → HasFile before.told name bytes → length bytes ≤ MAX_REPORT → TellsReportRefusal d bytes e
+    → StopsHere before after name (JudgesReport d taken) (report_answer name d e)
+report-refused before after name bytes d taken report.Memory there short h = tt
+report-refused before after name bytes d taken e there short h =
+    (refl, judged-of before.told name (JudgesReport d taken) bytes (Err (BadReport e (refused_flow d e))) there (inr (inl (e, refl, short, h))))
+
+pub report-stops :
+    (before after : Inputs) (name bytes : List ℕ) (d : DomainValue) (taken : List Report) (e : ReportError) (answer : Answer)
+    → HasFile before.told name bytes → length bytes ≤ MAX_REPORT → TellsReportRefusal d bytes e → IsAnswered (report_answer name d e) answer
+    → StopsHere before after name (JudgesReport d taken) answer
+report-stops before after name bytes d taken e answer there short h is =
+    stop-answer before after name (JudgesReport d taken) (report_answer name d e) answer
+    (report-refused before after name bytes d taken e there short h) is

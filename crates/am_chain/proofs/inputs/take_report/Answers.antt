@@ -2,14 +2,14 @@
 use Rattle.std.proofs.Common.{sym, subst, arith, ap, ◌∙◌, ◌≡◌, ◌≤◌, length, Ok, rules}
 use Rattle.std.proofs.lemmas.List.{get_or_default}
 use Rattle.am_domain.specs.Values.{NodeValue, no_node}
-use Rattle.am_report.specs.Reports.{IsReportOf}
+use Rattle.am_report.specs.Reports.{IsReportOf, TellsReportRefusal}
 use Rattle.am_report.specs.Rows.{node_name}
 use Rattle.am_report.specs.declared.read.TheConstants.{MAX_REPORT}
 use Rattle.am_chain.specs.Chains.{inputs}
 use Rattle.am_chain.specs.Inputs.{JudgesReport}
 use Rattle.am_chain.specs.Shown.{stop_shown}
 use Rattle.am_chain.proofs.InputLemmas.{judged-of, whole-at-end}
-use Rattle.am_chain.proofs.ReportLemmas.{has-more, known-at, report-within, second-stops}
+use Rattle.am_chain.proofs.ReportLemmas.{has-more, known-at, report-within, report-stops, second-stops}
 use Rattle.am_chain.proofs.inputs.take_report.Goals as goal
 
 pub accept-requires-clause-node : goal.accept-requires-clause-node
@@ -41,6 +41,16 @@ returns-in-Ok-accept g c =
       },
       has-more d c.args.control.now c.accept.new.self taken r within has accepted,
     )
+
+pub returns-in-Err-read_report : goal.returns-in-Err-read_report
+returns-in-Err-read_report g c =
+    λ taken has.
+    report-stops (inputs (g.S.Shelf.told c.args.shelf.now) (g.S.Shelf.faults c.args.shelf.now) (g.S.Shelf.missed c.args.shelf.now))
+    (inputs (g.S.Shelf.told c.read_file.new.shelf) (g.S.Shelf.faults c.read_file.new.shelf) (g.S.Shelf.missed c.read_file.new.shelf))
+    c.args.name.now c.in-Ok.bytes.items c.args.domain.now taken c.in-Err-read_report.error (stop_shown c.of_report.result)
+    c.in-Ok.ensures.bytes (omega (arith, c.in-Ok.ensures.bound))
+    (subst (λ x. TellsReportRefusal c.args.domain.now x c.in-Err-read_report.error) c.deref.ensures.value c.in-Err-read_report.ensures.err)
+    c.of_report.ensures
 
 pub returns : goal.returns
 returns g c =
