@@ -76,18 +76,18 @@ fn each_node_reports_once(rt: HostRuntime) -> Result<(), Fail> {
     let first_missing = Some(ControlError::MissingReport { node: 0 });
     let last_missing = Some(ControlError::MissingReport { node: 2 });
     let twice = Err(ControlError::ReportTwice { node: 1 });
-    assert_eq!(rt; take(alloc, &domain, &mut control, B)?, Ok(()));
-    assert_eq!(rt; control.finish().err(), first_missing);
-    assert_eq!(rt; take(alloc, &domain, &mut control, B)?, twice);
-    assert_eq!(rt; take(alloc, &domain, &mut control, A)?, Ok(()));
-    assert_eq!(rt; control.finish().err(), last_missing);
-    assert_eq!(rt; take(alloc, &domain, &mut control, C)?, Ok(()));
+    assert!(rt; take(alloc, &domain, &mut control, B)? == Ok(()));
+    assert!(rt; control.finish().err() == first_missing);
+    assert!(rt; take(alloc, &domain, &mut control, B)? == twice);
+    assert!(rt; take(alloc, &domain, &mut control, A)? == Ok(()));
+    assert!(rt; control.finish().err() == last_missing);
+    assert!(rt; take(alloc, &domain, &mut control, C)? == Ok(()));
     let closed = control.finish()?;
     let mut out = MemSink::new(alloc, 4096, Vec::new(alloc))?;
     assert!(rt; write_loss(alloc, &domain, &closed, &mut out).is_ok());
     assert!(rt; out.bytes() == TABLE.as_bytes());
-    assert_eq!(rt; closed.rows(), 12);
+    assert!(rt; closed.rows() == 12);
     let row = closed.row(9);
-    assert_eq!(rt; (row.scope, row.lost), (Scope::Network, -1));
+    assert!(rt; (row.scope, row.lost) == (Scope::Network, -1));
     Ok(())
 }

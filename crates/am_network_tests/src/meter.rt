@@ -55,9 +55,9 @@ fn marked_records_are_given_in_order(rt: HostRuntime) -> Result<(), Fail> {
             mark.loss(),
             mark.delay(),
         );
-        assert_eq!(rt; found, wanted);
+        assert!(rt; found == wanted);
     }
-    assert_eq!(rt; stream.next(&mut shelf), Ok(None));
+    assert!(rt; stream.next(&mut shelf) == Ok(None));
     Ok(())
 }
 
@@ -84,7 +84,7 @@ fn counts(domain: &Domain, cells: &Cells, block: u64) -> Result<(u64, u128, u64,
 fn a_node_counts_each_record_in_its_block(rt: HostRuntime) -> Result<(), Fail> {
     let alloc = rt.alloc();
     let domain = late(alloc)?;
-    assert_eq!(rt; domain.nodes().len(), 2);
+    assert!(rt; domain.nodes().len() == 2);
     let mut shelf = shelf_of(alloc, &RECORDS, 0)?;
     // At the second node block 0 is seen from 7 s on, and block 1 from 17 s on.
     for (node, zero, one) in [
@@ -96,14 +96,14 @@ fn a_node_counts_each_record_in_its_block(rt: HostRuntime) -> Result<(), Fail> {
         (1, (1, 21_000_000_000, 1, 21_000_000_000), (0, 0, 0, 0)),
     ] {
         let cells = meter_file(alloc, &domain, node, &mut shelf, &NoGate)?;
-        assert_eq!(rt; counts(&domain, &cells, 0)?, zero);
-        assert_eq!(rt; counts(&domain, &cells, 1)?, one);
+        assert!(rt; counts(&domain, &cells, 0)? == zero);
+        assert!(rt; counts(&domain, &cells, 1)? == one);
     }
     // But for its last byte the file has all records.
     let mut shelf = shelf_of(alloc, &RECORDS, 1)?;
     let answer = meter_file(alloc, &domain, 0, &mut shelf, &NoGate);
     let cut = FileError::Bad(CapError::CutFile { number: 6 });
-    assert_eq!(rt; answer.err(), Some(MeterError::File(cut)));
+    assert!(rt; answer.err() == Some(MeterError::File(cut)));
     Ok(())
 }
 
@@ -111,7 +111,7 @@ fn a_node_counts_each_record_in_its_block(rt: HostRuntime) -> Result<(), Fail> {
 fn a_batch_has_the_cells_of_its_records(rt: HostRuntime) -> Result<(), Fail> {
     let alloc = rt.alloc();
     let domain = late(alloc)?;
-    assert_eq!(rt; domain.nodes().len(), 2);
+    assert!(rt; domain.nodes().len() == 2);
     let mut packet = Vec::from_slice(alloc, &PACKET)?;
     packet.extend_from_slice(&[0x58, 0])?;
     let mut batch = Batch::new(alloc)?;
@@ -124,14 +124,14 @@ fn a_batch_has_the_cells_of_its_records(rt: HostRuntime) -> Result<(), Fail> {
     ] {
         assert!(rt; batch.push(link, number, reading, true, &packet));
     }
-    assert_eq!(rt; batch.len(), 4);
+    assert!(rt; batch.len() == 4);
     for workers in [1, 64] {
         let cells = count_parallel(alloc, &domain, 0, &batch, workers, &NoGate)?;
-        assert_eq!(rt; counts(&domain, &cells, 1)?, (2, 19_999_999_999, 0, 0));
+        assert!(rt; counts(&domain, &cells, 1)? == (2, 19_999_999_999, 0, 0));
     }
     batch.clear();
     assert!(rt; batch.push(LinkKind::RawIp, 12, 5_000_000_000, false, &PACKET));
     let answer = count_parallel(alloc, &domain, 0, &batch, 1, &NoGate);
-    assert_eq!(rt; answer.err(), Some(CountError::HeadersCut { number: 12 }));
+    assert!(rt; answer.err() == Some(CountError::HeadersCut { number: 12 }));
     Ok(())
 }
