@@ -52,32 +52,21 @@ fn addresses_are_printed(rt: HostRuntime) -> Result<(), Fail> {
     Ok(())
 }
 
-// Whether each prefix holds 2001:db8:1::1 and 2001:db8:2::1; and texts of no prefix.
+// Whether each prefix holds 2001:db8:1::1 and 2001:db8:2::1.
 #[test]
 fn prefixes_hold_addresses(rt: HostRuntime) -> Result<(), Fail> {
     let one = parse("2001:db8:1::1").ok_or("an address")?;
     let two = parse("2001:db8:2::1").ok_or("an address")?;
-    for (text, base, length, holds) in [
-        ("2001:db8:1::1/48", "2001:db8:1::", 48, (true, false)),
-        ("::/0", "::", 0, (true, true)),
-        ("2001:db8:1::1/128", "2001:db8:1::1", 128, (true, false)),
+    for (text, holds) in [
+        ("2001:db8:1::1/48", (true, false)),
+        ("2001:db8:1::1/128", (true, false)),
         // within a byte: 1 and 2 differ in bits 46 and 47 alone
-        ("2001:db8:3::/46", "2001:db8::", 46, (true, true)),
+        ("2001:db8:3::/46", (true, true)),
+        ("::/0", (true, true)),
     ] {
         let prefix = Prefix::parse(text).ok_or("a prefix")?;
-        let first = parse(base).ok_or("an address")?;
-        assert!(rt;
-            prefix.base() == first && prefix.length() == length,
-            "{text}"
-        );
         assert!(rt; (prefix.holds(&one), prefix.holds(&two)) == holds, "{text}");
     }
     assert!(rt; Some(Mask::new(46).clear(&one)) == parse("2001:db8::"));
-    for text in [
-        "::/129", "::/048", "::/", "/", "::", "", "/48", "::/+4", "::/1000", "::/4/8", "::/00",
-        "1:2/16",
-    ] {
-        assert!(rt; Prefix::parse(text).is_none(), "{text}");
-    }
     Ok(())
 }

@@ -1,6 +1,5 @@
-//! The packets and the capture that the tests change and read, by hand from the formats.
+//! The packets that the tests change and read, by hand from the formats, and a shelf.
 use am_base::MemShelf;
-use am_samples::HEAD;
 use std::alloc::{AllocError, Global};
 
 /// From 2001:db8:1::1 to 2001:db8:2::1, with nothing behind it: version 6, traffic class 0xa5, flow label 0xbcdef, no
@@ -22,17 +21,6 @@ pub fn packet(alloc: Global, payload: u16, next: u8, behind: &[u8]) -> Result<Ve
     bytes.extend_from_slice(&FIXED[7..])?;
     bytes.extend_from_slice(behind)?;
     Ok(bytes)
-}
-
-/// A capture of three packets of 48 bytes, of the seconds 1, 2 and 11.
-pub fn capture(alloc: Global) -> Result<Vec<u8>, AllocError> {
-    let packet = packet(alloc, 8, 0, MARKED)?;
-    let mut file = HEAD.to_vec(alloc)?;
-    for second in [1, 2, 11] {
-        file.extend_from_slice(&[second, 0, 0, 0, 0, 0, 0, 0, 48, 0, 0, 0, 48, 0, 0, 0])?;
-        file.extend_from_slice(&packet)?;
-    }
-    Ok(file)
 }
 
 /// A shelf in memory of one file, named `f`, whose opens and reads of these numbers fail.
